@@ -1,0 +1,9 @@
+pub mod Polynomials
+pub mod Fractions
+pub mod Entries
+pub mod ExpKernel
+pub mod Ln1pKernel
+pub mod LnKernel
+pub mod LnSides
+pub mod Cases
+pub mod Theorems

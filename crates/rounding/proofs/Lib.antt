@@ -1,0 +1,10 @@
+pub mod Nearest
+pub mod Operations
+pub mod Near
+pub mod Snap
+pub mod Values
+pub mod Casts
+pub mod Placed
+pub mod Fields
+pub mod Minus
+pub mod Tables

@@ -1,0 +1,11 @@
+-- Laws over plain numbers and lists, which the proofs of the functions and the theorems cite.
+pub mod Tests
+pub mod Entries
+pub mod Position
+pub mod Classed
+pub mod Found
+pub mod Encoded
+pub mod Whole
+pub mod Ordered
+pub mod Spelt
+pub mod Theorems

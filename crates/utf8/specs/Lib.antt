@@ -1,0 +1,5 @@
+pub mod Grammar
+pub mod Encode
+pub mod Decode
+pub mod Chars
+pub mod Order
