@@ -6,7 +6,8 @@
 //! points, at powers of two, among subnormals, at the ends of each case and
 //! where a polynomial shows most of its bits.
 
-mod proved;
+#[path = "../../crates/export/causeylark.rs"]
+mod causeylark;
 mod random;
 mod reference;
 
@@ -21,17 +22,17 @@ struct Function {
 const FUNCTIONS: [Function; 3] = [
     Function {
         name: "exp",
-        proved: proved::causeylark_exp,
+        proved: causeylark::causeylark_exp,
         reference: reference::exp,
     },
     Function {
         name: "ln",
-        proved: proved::causeylark_ln,
+        proved: causeylark::causeylark_ln,
         reference: reference::ln,
     },
     Function {
         name: "ln_1p",
-        proved: proved::causeylark_ln_1p,
+        proved: causeylark::causeylark_ln_1p,
         reference: reference::ln_1p,
     },
 ];

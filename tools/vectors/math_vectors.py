@@ -23,7 +23,7 @@ EVERY = 50
 def main():
     chosen = itertools.islice(accuracy.arguments(), 0, None, EVERY)
     questions = list(accuracy.examples() | dict.fromkeys(chosen))
-    answers = accuracy.ask([sys.executable, str(ROOT / "tools/math/run.py"), "filter"], questions)
+    answers = accuracy.ask([sys.executable, str(ROOT / "tools/rust.py"), "filter"], questions)
     crate = ROOT / "crates/math_vectors"
     crate.joinpath("stdin").write_text("".join(f"{letter} {one:016x}\n" for letter, one in questions))
     crate.joinpath("stdout").write_text("".join(f"{answer:016x}\n" for answer in answers))

@@ -1,19 +1,18 @@
 -- How far the loop of `read` has come.
 -- Assumes nothing.
 use Prim.Native.Nat.{ℕ, suc, _+_, _-_, _*_, _^_, _≤_, _<_}
-use mathlib.Core.Path.{_≡_, refl, _∙_, sym, ap, subst}
-use mathlib.Core.List.{List, [], _∷_}
+use mathlib.Core.Path.{_≡_, _∙_, sym, ap, subst}
+use mathlib.Core.List.{List, _∷_}
 use native.Mathlib.Nat.{pow-suc, pow-le-pow-right, sub-self}
 use native.Mathlib.Numerals.{add-one}
 use native.Mathlib.Omega.{arith}
-use lib.Dec.{lit<, leb}
+use lib.Dec.{lit<}
 use lib.ListN.{length, take, drop, getD}
 use lib.Seq.{drop-cons}
 use borrow.Author.Tests.{le-leb, lt-leb}
-use Rattle.hex.specs.Digits.{pick, valueOf, then, numeral}
+use Rattle.hex.specs.Digits.{valueOf, then, numeral}
 use Rattle.hex.specs.Frames.{readAt}
 use Rattle.hex.specs.declared.Nibble.the-variants.{Value as Digit, Bad as NoDigit}
-use Rattle.hex.specs.declared.Number.{Number}
 use Rattle.hex.specs.declared.Number.the-variants.{Value, Bad}
 use Rattle.hex.proofs.Valued.{digit-below}
 

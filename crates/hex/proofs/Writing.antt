@@ -1,16 +1,15 @@
 -- How far the loop of `write` has come.
 -- Assumes nothing.
 use Prim.Native.Nat.{ℕ, zero, suc, _+_, _-_, _/_, _%_, _≤_, _<_}
-use mathlib.Core.Path.{_≡_, refl, _∙_, sym, ap, subst}
+use mathlib.Core.Path.{_≡_, refl, _∙_, sym, ap}
 use mathlib.Core.List.{List, [], _∷_, _++_}
 use native.Mathlib.Nat.{add-suc, suc-add, add-zero}
 use native.Mathlib.Numerals.{add-one}
 use native.Mathlib.Omega.{arith}
-use lib.Dec.{leb}
 use lib.ListN.{length, set, length-set, length-append}
-use lib.Seq.{sets, set-comm, length-sets}
+use lib.Seq.{sets, set-comm}
 use borrow.Author.Tests.{le-leb, lt-leb}
-use Rattle.hex.specs.Digits.{pick, digitOf, digitsOf}
+use Rattle.hex.specs.Digits.{digitOf, digitsOf}
 use Rattle.hex.specs.Frames.{writtenAt, writeAt}
 use Rattle.hex.specs.declared.Written.the-variants.{Upto, NoRoom}
 

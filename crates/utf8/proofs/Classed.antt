@@ -15,9 +15,9 @@ use lib.ListN.{drop}
 use Rattle.utf8.specs.Grammar.{Range}
 use Rattle.utf8.proofs.Tests.{pick-cases, in-range, range}
 use Rattle.utf8.specs.Encode.{pick}
-use Rattle.utf8.specs.Decode.{within, classOf, Right, byClass, decoded, decodedBy}
+use Rattle.utf8.specs.Decode.{within, classOf, classIn, Right, byClass, decoded, decodedBy}
 use Rattle.utf8.specs.declared.Decoded.{Decoded}
-use Rattle.utf8.specs.declared.Decoded.the-variants.{Char, Bad}
+use Rattle.utf8.specs.declared.Decoded.the-variants.{Char}
 use Rattle.utf8.proofs.Entries.{every, at, left, right}
 
 -- the test of one entry
@@ -26,15 +26,15 @@ unfolding classOf
 is-class a x = eqb x (classOf a)
 
 -- a table of 256 entries, each of which passes its test, is right
-pub right-table : {table : List ℕ} → length table ≡ 256 → T (every is-class 0 table) → Right table
-unfolding is-class
-right-table {table} n t = record {
+pub right-table : (table : List ℕ) → length table ≡ 256 → T (every is-class 0 table) → Right table
+unfolding is-class classIn
+right-table table n t = record {
   entries = n;
   entry = λ a h. eqb→eq (getD table a 0) (classOf a) (at is-class table t a (subst (λ (m : ℕ). a < m) (sym n) h));
 }
 
 -- An ASCII byte has class 1. So a right table says the same as the classes themselves, whatever byte stands first.
-ascii-class : (a : ℕ) → a < 0x80 → classOf a ≡ 1
+pub ascii-class : (a : ℕ) → a < 0x80 → classOf a ≡ 1
 unfolding classOf
 ascii-class a h = rw (in-range (ascii-range a h))
   where
@@ -45,7 +45,7 @@ by-right : {table : List ℕ} → Right table → (s : List ℕ) → getD s 0 0 
 unfolding decodedBy decoded byClass
 by-right r [] h = refl
 by-right {table} r (a ∷ s) h =
-    pick-cases (λ (d : Decoded). d ≡ byClass (classOf a) a s) (ltb a 0x80) (Char a 1) (byClass (getD table a 0) a s)
+    pick-cases (λ (d : Decoded). d ≡ byClass (classOf a) a s) (ltb a 0x80) (Char a 1) (byClass (classIn table a) a s)
     (λ t. sym (ap (λ (k : ℕ). byClass k a s) (ascii-class a (ltb-true a 0x80 t))))
     (λ t. ap (λ (k : ℕ). byClass k a s) (r .entry a h))
 

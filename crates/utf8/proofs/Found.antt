@@ -1,13 +1,12 @@
 -- The function `decoded` is the grammar of RFC 3629: what it finds is a character of the grammar, and it finds each.
 -- Assumes nothing.
-use Prim.Native.Nat.{ℕ}
+use Prim.Native.Nat.{ℕ, _%_}
 use mathlib.Core.Path.{_≡_, refl, _∙_, ap}
-use mathlib.Core.Bool.{true, false}
 use mathlib.Core.List.{List, [], _∷_, _++_}
 use lib.ListN.{length}
 use Rattle.utf8.specs.Grammar.{Range, Tail, code2, code3, code4, UTF8-char, utf8-1, utf8-2, utf8-3-E0, utf8-3-E1, utf8-3-ED, utf8-3-EE, utf8-4-F0, utf8-4-F1, utf8-4-F4}
 use Rattle.utf8.specs.Encode.{pick}
-use Rattle.utf8.specs.Decode.{within, classOf, decoded2, decoded3, decoded4, byClass, decoded}
+use Rattle.utf8.specs.Decode.{within, classOf, decodedAfter, byClass, decoded}
 use Rattle.utf8.specs.declared.Decoded.{Decoded}
 use Rattle.utf8.specs.declared.Decoded.the-variants.{Char, Bad}
 use Rattle.utf8.proofs.Tests.{pick-cases, in-range, range}
@@ -22,30 +21,29 @@ Found s Bad = Unit {0}
 tested : (s : List ℕ) (low high x : ℕ) (d : Decoded) → (Range low high x → Found s d) → Found s (pick (within low high x) d Bad)
 tested s low high x d f = pick-cases (Found s) (within low high x) d Bad (λ t. f (range t)) (λ _. tt)
 
-found2 : (a : ℕ) → Range 0xC2 0xDF a → (s : List ℕ) → Found (a ∷ s) (decoded2 a s)
-unfolding decoded2
+found2 : (a : ℕ) → Range 0xC2 0xDF a → (s : List ℕ) → Found (a ∷ s) (decodedAfter (a % 32) 0x80 0xBF 0 s)
+unfolding decodedAfter
 found2 a h [] = tt
-found2 a h (b ∷ s) = tested (a ∷ b ∷ s) 0x80 0xBF b (Char (code2 a b) 2) (λ t. (a ∷ b ∷ [], s, utf8-2 h t, refl, refl))
+found2 a h (b ∷ s) = tested (a ∷ b ∷ s) 0x80 0xBF b _ (λ t. (a ∷ b ∷ [], s, utf8-2 h t, refl, refl))
 
 found3 : (low high a : ℕ) → ((b c : ℕ) → Range low high b → Tail c → UTF8-char (a ∷ b ∷ c ∷ []) (code3 a b c))
-    → (s : List ℕ) → Found (a ∷ s) (decoded3 low high a s)
-unfolding decoded3
+    → (s : List ℕ) → Found (a ∷ s) (decodedAfter (a % 16) low high 1 s)
+unfolding decodedAfter
 found3 low high a f [] = tt
-found3 low high a f (b ∷ []) = tt
+found3 low high a f (b ∷ []) = tested (a ∷ b ∷ []) low high b Bad (λ _. tt)
 found3 low high a f (b ∷ c ∷ s) =
-    tested (a ∷ b ∷ c ∷ s) low high b _
-    (λ t. tested (a ∷ b ∷ c ∷ s) 0x80 0xBF c (Char (code3 a b c) 3) (λ u. (a ∷ b ∷ c ∷ [], s, f b c t u, refl, refl)))
+    tested (a ∷ b ∷ c ∷ s) low high b _ (λ t. tested (a ∷ b ∷ c ∷ s) 0x80 0xBF c _ (λ u. (a ∷ b ∷ c ∷ [], s, f b c t u, refl, refl)))
 
 found4 : (low high a : ℕ) → ((b c d : ℕ) → Range low high b → Tail c → Tail d → UTF8-char (a ∷ b ∷ c ∷ d ∷ []) (code4 a b c d))
-    → (s : List ℕ) → Found (a ∷ s) (decoded4 low high a s)
-unfolding decoded4
+    → (s : List ℕ) → Found (a ∷ s) (decodedAfter (a % 8) low high 2 s)
+unfolding decodedAfter
 found4 low high a f [] = tt
-found4 low high a f (b ∷ []) = tt
-found4 low high a f (b ∷ c ∷ []) = tt
+found4 low high a f (b ∷ []) = tested (a ∷ b ∷ []) low high b Bad (λ _. tt)
+found4 low high a f (b ∷ c ∷ []) = tested (a ∷ b ∷ c ∷ []) low high b _ (λ _. tested (a ∷ b ∷ c ∷ []) 0x80 0xBF c Bad (λ _. tt))
 found4 low high a f (b ∷ c ∷ d ∷ s) =
     tested (a ∷ b ∷ c ∷ d ∷ s) low high b _
     (λ t. tested (a ∷ b ∷ c ∷ d ∷ s) 0x80 0xBF c _
-    (λ u. tested (a ∷ b ∷ c ∷ d ∷ s) 0x80 0xBF d (Char (code4 a b c d) 4) (λ v. (a ∷ b ∷ c ∷ d ∷ [], s, f b c d t u v, refl, refl))))
+    (λ u. tested (a ∷ b ∷ c ∷ d ∷ s) 0x80 0xBF d _ (λ v. (a ∷ b ∷ c ∷ d ∷ [], s, f b c d t u v, refl, refl))))
 
 by-class : (a k : ℕ) → Classed a k → (s : List ℕ) → Found (a ∷ s) (byClass k a s)
 unfolding byClass
@@ -68,16 +66,16 @@ found (a ∷ s) = by-class a (classOf a) (classed a) s
 
 -- The other way: a character of the grammar, whatever follows it, is what `decoded` finds.
 module _ (a b c : ℕ) (s : List ℕ) where
-  yes2 : Tail b → decoded2 a (b ∷ s) ≡ Char (code2 a b) 2
-  unfolding decoded2
+  yes2 : Tail b → decodedAfter (a % 32) 0x80 0xBF 0 (b ∷ s) ≡ Char (code2 a b) 2
+  unfolding decodedAfter
   yes2 t = rw (in-range t)
 
-  yes3 : (low high : ℕ) → Range low high b → Tail c → decoded3 low high a (b ∷ c ∷ s) ≡ Char (code3 a b c) 3
-  unfolding decoded3
+  yes3 : (low high : ℕ) → Range low high b → Tail c → decodedAfter (a % 16) low high 1 (b ∷ c ∷ s) ≡ Char (code3 a b c) 3
+  unfolding decodedAfter
   yes3 low high t u = rw (in-range t, in-range u)
 
-  yes4 : (low high d : ℕ) → Range low high b → Tail c → Tail d → decoded4 low high a (b ∷ c ∷ d ∷ s) ≡ Char (code4 a b c d) 4
-  unfolding decoded4
+  yes4 : (low high d : ℕ) → Range low high b → Tail c → Tail d → decodedAfter (a % 8) low high 2 (b ∷ c ∷ d ∷ s) ≡ Char (code4 a b c d) 4
+  unfolding decodedAfter
   yes4 low high d t u v = rw (in-range t, in-range u, in-range v)
 
 -- the class of the first byte chooses

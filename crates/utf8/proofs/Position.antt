@@ -1,120 +1,106 @@
--- The character at a position of a text, from what the code tests there: each law is one way out of a function.
+-- The character at a position of a text, from what the code tests there: each law is one way out of a function, or a turn of
+-- its loop.
 -- Assumes nothing.
-use Prim.Native.Nat.{ℕ, _+_, _-_, _*_, _%_, _≤_, _<_}
-use mathlib.Core.Path.{_≡_, refl, _∙_, sym, ap, subst}
-use mathlib.Core.Bool.{Bool, true, false}
-use mathlib.Core.List.{List, [], _∷_}
+use Prim.Native.Nat.{ℕ, suc, _+_, _-_, _*_, _%_, _^_, _≤_, _<_}
+use mathlib.Core.Path.{_≡_, _∙_, sym, ap, subst}
+use mathlib.Core.Bool.{true, false}
+use mathlib.Core.List.{List, _∷_}
+use native.Mathlib.Nat.{pow-suc, pow-le-pow-right, sub-self}
 use native.Mathlib.Numerals.{add-one}
-use native.Mathlib.Nat.{add-assoc}
 use native.Mathlib.Omega.{arith}
-use lib.Dec.{ltb, eqb}
-use lib.ListN.{length, drop, getD, length-drop, drop-of-length-le}
+use lib.Dec.{lit<}
+use lib.ListN.{length, drop, getD, drop-of-length-le}
 use lib.Seq.{drop-cons}
 use borrow.Author.Tests.{lt-ltb, le-ltb, ne-eqb}
-use Rattle.utf8.specs.Grammar.{code2, code3, code4}
 use Rattle.utf8.specs.Encode.{pick}
-use Rattle.utf8.specs.Decode.{within, decoded2, decoded3, decoded4, byClass, decodedBy}
+use Rattle.utf8.specs.Decode.{within, classOf, classIn, decodedTails, decodedAfter, byClass, decoded, decodedBy}
 use Rattle.utf8.specs.declared.Decoded.{Decoded}
 use Rattle.utf8.specs.declared.Decoded.the-variants.{Char, Bad}
+use Rattle.utf8.proofs.Classed.{ascii-class}
 
 -- the byte at a position, and what follows it
-pub next : (text : List ℕ) (at : ℕ) → at < length text → drop at text ≡ getD text at 0 ∷ drop (at + 1) text
-next text at h = rw add-one (drop-cons text at 0 h)
+next-byte : (text : List ℕ) (at : ℕ) → at < length text → drop at text ≡ getD text at 0 ∷ drop (at + 1) text
+next-byte text at h = rw add-one (drop-cons text at 0 h)
 
--- the same at a place after `at`, with the place after that one written as a sum too
-further : (text : List ℕ) (at n : ℕ) → at + n < length text → drop (at + n) text ≡ getD text (at + n) 0 ∷ drop (at + (n + 1)) text
-further text at n h = subst (λ (k : ℕ). drop (at + n) text ≡ getD text (at + n) 0 ∷ drop k text) (add-assoc at n 1) (next text (at + n) h)
+-- How far the loop of `follow` has come: the bytes before `next` made `code`, and `left` of n tails are still to come.
+pub record Following (text : List ℕ) (at lead low high n code next left : ℕ) : Type 0 where
+  pub inside : next ≤ length text
+  pub few : left ≤ n
+  pub most : n ≤ 2
+  pub small : code < 2048 * 64 ^ (n - left)
+  pub same : decodedAfter lead low high n (drop (at + 1) text) ≡ decodedTails left code (n + 2) (drop next text)
 
--- too few bytes for the alternative
-short3 : (low high a : ℕ) (s : List ℕ) → length s < 2 → Bad ≡ decoded3 low high a s
-unfolding decoded3
-short3 low high a [] h = refl
-short3 low high a (b ∷ []) h = refl
-short3 low high a (b ∷ c ∷ s) h = absurd (omega arith)
+-- the second byte
+module _ (text : List ℕ) (at lead low high n : ℕ) where
+  pub no-second : length text ≤ at + 1 → Bad ≡ decodedAfter lead low high n (drop (at + 1) text)
+  unfolding decodedAfter
+  no-second h = rw (drop-of-length-le text h)
 
-short4 : (low high a : ℕ) (s : List ℕ) → length s < 3 → Bad ≡ decoded4 low high a s
-unfolding decoded4
-short4 low high a [] h = refl
-short4 low high a (b ∷ []) h = refl
-short4 low high a (b ∷ c ∷ []) h = refl
-short4 low high a (b ∷ c ∷ d ∷ s) h = absurd (omega arith)
+  module _ (h : at + 1 < length text) where
+    pub bad-second : within low high (getD text (at + 1) 0) ≡ false → Bad ≡ decodedAfter lead low high n (drop (at + 1) text)
+    unfolding decodedAfter
+    bad-second t = rw (next-byte text (at + 1) h, t)
 
--- UTF8-2 from its second byte on, which stands at + 1
-module _ (text : List ℕ) (at a : ℕ) where
-  pub two-short : length text - at < 2 → Bad ≡ decoded2 a (drop (at + 1) text)
-  unfolding decoded2
-  two-short h = let e : length text ≤ at + 1 = omega arith in rw (drop-of-length-le text e)
+    pub following-none : within low high (getD text (at + 1) 0) ≡ true → lead < 32 → n ≤ 2 → (x : ℕ) → x ≡ getD text (at + 1) 0
+        → Following text at lead low high n (lead * 64 + x % 64) (at + 1 + 1) n
+    unfolding decodedAfter
+    following-none t l m x e = record {
+      inside = omega arith;
+      few = omega arith;
+      most = m;
+      small = rw (sub-self n) (omega arith);
+      same = rw (next-byte text (at + 1) h, t, e);
+    }
 
-  module _ (room : 2 ≤ length text - at) where
-    two-front : drop (at + 1) text ≡ getD text (at + 1) 0 ∷ drop (at + 2) text
-    two-front = further text at 1 (omega arith)
+-- one tail more makes at most 23 bits
+room : (j code y : ℕ) → j < 2 → code < 2048 * 64 ^ j → (code * 64 + y % 64 < 2048 * 64 ^ suc j) × (code * 64 + y % 64 < 2 ^ 32)
+room j code y h k =
+    let p : 64 ^ suc j ≡ 64 ^ j * 64 = pow-suc 64 j in
+    let m : 64 ^ suc j ≤ 64 ^ 2 = pow-le-pow-right (lit< tt) h in
+    omega arith
 
-    pub two-second : within 0x80 0xBF (getD text (at + 1) 0) ≡ false → Bad ≡ decoded2 a (drop (at + 1) text)
-    unfolding decoded2
-    two-second t = rw (two-front, t)
+-- a tail
+module _ {text : List ℕ} {at lead low high n code next left : ℕ} (f : Following text at lead low high n code next left) where
+  pub following-done : left ≤ 0 → Char code (n + 2) ≡ decodedAfter lead low high n (drop (at + 1) text)
+  unfolding decodedTails
+  following-done h = let z : left ≡ 0 = omega arith in sym (f .same ∙ rw z)
 
-    pub two-char : within 0x80 0xBF (getD text (at + 1) 0) ≡ true
-        → (x y : ℕ) → x ≡ a → y ≡ getD text (at + 1) 0 → Char (code2 x y) 2 ≡ decoded2 a (drop (at + 1) text)
-    unfolding decoded2
-    two-char t x y p q = rw (two-front, t, p, q)
+  module _ (h : 0 < left) where
+    pub no-tail : length text ≤ next → Bad ≡ decodedAfter lead low high n (drop (at + 1) text)
+    unfolding decodedTails
+    no-tail l = let z : left ≡ suc (left - 1) = omega arith in sym (f .same ∙ rw (z, drop-of-length-le text l))
 
--- UTF8-3 from its second byte on
-module _ (text : List ℕ) (at low high a : ℕ) where
-  pub three-short : length text - at < 3 → Bad ≡ decoded3 low high a (drop (at + 1) text)
-  three-short h = short3 low high a (drop (at + 1) text) (simp length-drop (omega arith))
+    module _ (l : next < length text) where
+      tail-left : decodedAfter lead low high n (drop (at + 1) text)
+          ≡ pick (within 0x80 0xBF (getD text next 0)) (decodedTails (left - 1) (code * 64 + getD text next 0 % 64) (n + 2) (drop (next + 1) text)) Bad
+      unfolding decodedTails
+      tail-left =
+          let z : left ≡ suc (left - 1) = omega arith in
+          f .same ∙ ap (λ (k : ℕ). decodedTails k code (n + 2) (drop next text)) z ∙ ap (decodedTails (suc (left - 1)) code (n + 2)) (next-byte text next l)
 
-  module _ (room : 3 ≤ length text - at) where
-    three-front : drop (at + 1) text ≡ getD text (at + 1) 0 ∷ getD text (at + 2) 0 ∷ drop (at + 3) text
-    three-front = further text at 1 (omega arith) ∙ ap (λ (s : List ℕ). getD text (at + 1) 0 ∷ s) (further text at 2 (omega arith))
+      pub bad-tail : within 0x80 0xBF (getD text next 0) ≡ false → Bad ≡ decodedAfter lead low high n (drop (at + 1) text)
+      bad-tail t = sym (tail-left ∙ rw t)
 
-    pub three-second : within low high (getD text (at + 1) 0) ≡ false → Bad ≡ decoded3 low high a (drop (at + 1) text)
-    unfolding decoded3
-    three-second t = rw (three-front, t)
+      pub following-room : (y : ℕ) → (code * 64 + y % 64 < 2048 * 64 ^ suc (n - left)) × (code * 64 + y % 64 < 2 ^ 32)
+      following-room y = room (n - left) code y (omega (arith, f .few, f .most)) (f .small)
 
-    module _ (t : within low high (getD text (at + 1) 0) ≡ true) where
-      pub three-third : within 0x80 0xBF (getD text (at + 2) 0) ≡ false → Bad ≡ decoded3 low high a (drop (at + 1) text)
-      unfolding decoded3
-      three-third u = rw (three-front, t, u)
+      pub following-more : within 0x80 0xBF (getD text next 0) ≡ true → (y : ℕ) → y ≡ getD text next 0
+          → Following text at lead low high n (code * 64 + y % 64) (next + 1) (left - 1)
+      following-more t y e =
+          let j : suc (n - left) ≡ n - (left - 1) = omega (arith, f .few) in
+          record {
+            inside = omega arith;
+            few = omega (arith, f .few);
+            most = f .most;
+            small = subst (λ (k : ℕ). code * 64 + y % 64 < 2048 * 64 ^ k) j (following-room y .0);
+            same = tail-left ∙ rw (t, e);
+          }
 
-      pub three-char : within 0x80 0xBF (getD text (at + 2) 0) ≡ true
-          → (x y z : ℕ) → x ≡ a → y ≡ getD text (at + 1) 0 → z ≡ getD text (at + 2) 0
-          → Char (code3 x y z) 3 ≡ decoded3 low high a (drop (at + 1) text)
-      unfolding decoded3
-      three-char u x y z p q r = rw (three-front, t, u, p, q, r)
+-- An arm of the match on the class k, where the first byte a was widened to x.
+pub arm : {x a : ℕ} → x ≡ a → {class k : ℕ} → class ≡ k → (s : List ℕ) {r : Decoded} → r ≡ byClass k x s → r ≡ byClass class a s
+arm {x} {a} q {class} {k} e s p = p ∙ rw (q, e)
 
--- UTF8-4 from its second byte on
-module _ (text : List ℕ) (at low high a : ℕ) where
-  pub four-short : length text - at < 4 → Bad ≡ decoded4 low high a (drop (at + 1) text)
-  four-short h = short4 low high a (drop (at + 1) text) (simp length-drop (omega arith))
-
-  module _ (room : 4 ≤ length text - at) where
-    four-front : drop (at + 1) text ≡ getD text (at + 1) 0 ∷ getD text (at + 2) 0 ∷ getD text (at + 3) 0 ∷ drop (at + 4) text
-    four-front =
-        further text at 1 (omega arith)
-        ∙ ap (λ (s : List ℕ). getD text (at + 1) 0 ∷ s)
-        (further text at 2 (omega arith) ∙ ap (λ (s : List ℕ). getD text (at + 2) 0 ∷ s) (further text at 3 (omega arith)))
-
-    pub four-second : within low high (getD text (at + 1) 0) ≡ false → Bad ≡ decoded4 low high a (drop (at + 1) text)
-    unfolding decoded4
-    four-second t = rw (four-front, t)
-
-    module _ (t : within low high (getD text (at + 1) 0) ≡ true) where
-      pub four-third : within 0x80 0xBF (getD text (at + 2) 0) ≡ false → Bad ≡ decoded4 low high a (drop (at + 1) text)
-      unfolding decoded4
-      four-third u = rw (four-front, t, u)
-
-      module _ (u : within 0x80 0xBF (getD text (at + 2) 0) ≡ true) where
-        pub four-fourth : within 0x80 0xBF (getD text (at + 3) 0) ≡ false → Bad ≡ decoded4 low high a (drop (at + 1) text)
-        unfolding decoded4
-        four-fourth v = rw (four-front, t, u, v)
-
-        pub four-char : within 0x80 0xBF (getD text (at + 3) 0) ≡ true
-            → (w x y z : ℕ) → w ≡ a → x ≡ getD text (at + 1) 0 → y ≡ getD text (at + 2) 0 → z ≡ getD text (at + 3) 0
-            → Char (code4 w x y z) 4 ≡ decoded4 low high a (drop (at + 1) text)
-        unfolding decoded4
-        four-char v w x y z o p q r = rw (four-front, t, u, v, o, p, q, r)
-
--- By the class: none of the eight, at the end, an ASCII byte, and a byte whose class the table gives.
+-- and the arm for no class
 pub no-class : (k a : ℕ) (s : List ℕ)
     → (((((((Unit {0} × (k ≡ 1 → ⊥)) × (k ≡ 2 → ⊥)) × (k ≡ 3 → ⊥)) × (k ≡ 4 → ⊥)) × (k ≡ 5 → ⊥)) × (k ≡ 6 → ⊥)) × (k ≡ 7 → ⊥)) × (k ≡ 8 → ⊥)
     → Bad ≡ byClass k a s
@@ -122,17 +108,33 @@ unfolding byClass
 no-class k a s n =
     simp (ne-eqb k 1 (n .0 .0 .0 .0 .0 .0 .0 .1), ne-eqb k 2 (n .0 .0 .0 .0 .0 .0 .1), ne-eqb k 3 (n .0 .0 .0 .0 .0 .1), ne-eqb k 4 (n .0 .0 .0 .0 .1), ne-eqb k 5 (n .0 .0 .0 .1), ne-eqb k 6 (n .0 .0 .1), ne-eqb k 7 (n .0 .1), ne-eqb k 8 (n .1))
 
-module _ (table text : List ℕ) (at : ℕ) where
-  pub at-end : length text ≤ at → Bad ≡ decodedBy table (drop at text)
-  unfolding decodedBy
+-- At a position: its end, an ASCII byte, a byte of a class.
+module _ (text : List ℕ) (at : ℕ) where
+  pub at-end : length text ≤ at → Bad ≡ decoded (drop at text)
+  unfolding decoded
   at-end h = rw (drop-of-length-le text h)
 
   module _ (h : at < length text) where
-    pub ascii : getD text at 0 < 0x80 → (x : ℕ) → x ≡ getD text at 0 → Char x 1 ≡ decodedBy table (drop at text)
-    unfolding decodedBy
-    ascii l x p = rw (next text at h, lt-ltb (getD text at 0) 0x80 l, p)
+    pub of-class : (k : ℕ) → k ≡ classOf (getD text at 0) → (r : Decoded) → r ≡ byClass k (getD text at 0) (drop (at + 1) text) → r ≡ decoded (drop at text)
+    unfolding decoded
+    of-class k e r p = p ∙ sym (rw (next-byte text at h, e))
 
-    pub of-class : 0x80 ≤ getD text at 0 → (k : ℕ) → getD table (getD text at 0) 0 ≡ k
+    pub ascii : getD text at 0 < 0x80 → (x : ℕ) → x ≡ getD text at 0 → Char x 1 ≡ decoded (drop at text)
+    unfolding byClass
+    ascii l x p = of-class 1 (sym (ascii-class (getD text at 0) l)) (Char x 1) (ap (λ (y : ℕ). Char y 1) p)
+
+-- The same by a lent table.
+module _ (table text : List ℕ) (at : ℕ) where
+  pub at-end-by : length text ≤ at → Bad ≡ decodedBy table (drop at text)
+  unfolding decodedBy
+  at-end-by h = rw (drop-of-length-le text h)
+
+  module _ (h : at < length text) where
+    pub ascii-by : getD text at 0 < 0x80 → (x : ℕ) → x ≡ getD text at 0 → Char x 1 ≡ decodedBy table (drop at text)
+    unfolding decodedBy
+    ascii-by l x p = rw (next-byte text at h, lt-ltb (getD text at 0) 0x80 l, p)
+
+    pub of-class-by : 0x80 ≤ getD text at 0 → (k : ℕ) → k ≡ classIn table (getD text at 0)
         → (r : Decoded) → r ≡ byClass k (getD text at 0) (drop (at + 1) text) → r ≡ decodedBy table (drop at text)
     unfolding decodedBy
-    of-class l k e r p = p ∙ sym (rw (next text at h, le-ltb (getD text at 0) 0x80 l, e))
+    of-class-by l k e r p = p ∙ sym (rw (next-byte text at h, le-ltb (getD text at 0) 0x80 l, e))

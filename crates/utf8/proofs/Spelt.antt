@@ -1,22 +1,17 @@
 -- The characters of a text and its spelling: the function `charsOf` against the relation `Spells`, both ways.
 -- Assumes nothing.
-use Prim.Native.Nat.{ℕ, zero, suc, _+_, _≤_, _<_}
-use mathlib.Core.Path.{_≡_, refl, _∙_, sym, ap, subst}
-use mathlib.Core.Logic.{_⊎_, inl, inr}
-use mathlib.Core.Bool.{Bool, true, false}
+use Prim.Native.Nat.{ℕ, zero, suc, _≤_}
+use mathlib.Core.Path.{_≡_, refl, _∙_, sym, ap}
 use mathlib.Core.List.{List, [], _∷_, _++_, append-assoc, append-nil}
 use native.Mathlib.Nat.{le-refl}
 use native.Mathlib.Omega.{arith}
-use lib.Dec.{eqb}
-use lib.ListN.{length, take, drop, length-append, length-drop, take-append-drop}
-use lib.Seq.{take-at, drop-at, drop-append-seam, length-take-le}
-use borrow.Author.Tests.{eq-eqb, ne-eqb, eqb-true, eqb-false}
-use Rattle.utf8.specs.Encode.{pick, Scalar, encode, spelling, Scalars, none, more, Spells}
+use lib.ListN.{length, take, drop, length-append, length-drop}
+use lib.Seq.{take-at, drop-at, drop-append-seam}
+use Rattle.utf8.specs.Encode.{Scalar, encode, spelling, Scalars, none, more, Spells}
 use Rattle.utf8.specs.Decode.{decoded}
-use Rattle.utf8.specs.Chars.{charsOf, validOf, measured}
+use Rattle.utf8.specs.Chars.{charsOf, validOf}
 use Rattle.utf8.specs.declared.Decoded.{Decoded}
 use Rattle.utf8.specs.declared.Decoded.the-variants.{Char, Bad}
-use Rattle.utf8.specs.declared.Text.the-variants.{Chars, BadAt}
 use Rattle.utf8.proofs.Found.{finds}
 use Rattle.utf8.proofs.Encoded.{grammatical}
 use Rattle.utf8.proofs.Whole.{Stands, stands, chars-char, chars-bad}

@@ -1,11 +1,11 @@
 -- Tests and what they say: a range, a choice, a negated answer.
 -- Assumes nothing.
-use Prim.Native.Nat.{ℕ, _≤_, _<_}
+use Prim.Native.Nat.{ℕ}
 use mathlib.Core.Path.{_≡_, _∙_, sym, refl}
 use mathlib.Core.Bool.{Bool, true, false, not}
 use lib.Dec.{leb}
 use native.Mathlib.Omega.{arith}
-use borrow.Author.Tests.{le-leb, lt-leb, leb-true, not-true, not-false}
+use borrow.Author.Tests.{le-leb, leb-true, not-true, not-false}
 use Rattle.utf8.specs.Grammar.{Range}
 use Rattle.utf8.specs.Encode.{pick}
 use Rattle.utf8.specs.Decode.{within}

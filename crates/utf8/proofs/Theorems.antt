@@ -1,27 +1,25 @@
 -- What is proved of UTF-8, in RFC 3629's words. `decode text at` answers `decoded (drop at text)`, `measure text` answers
 -- `measured text` and `valid_up_to text` answers `validOf text`, so each statement here is one about the functions.
 -- Assumes nothing.
-use Prim.Native.Nat.{ℕ, _≤_, _<_}
+use Prim.Native.Nat.{ℕ, _+_, _≤_, _<_}
 use mathlib.Core.Path.{_≡_, refl, _∙_, sym, ap, subst, subst₂}
 use mathlib.Core.Logic.{_⊎_, inl, inr, _↔_}
-use mathlib.Core.Bool.{Bool, true, false}
-use mathlib.Core.List.{List, [], _∷_, _++_, append-nil}
+use mathlib.Core.List.{List, [], _∷_, _++_, append-nil, append-assoc}
 use native.Mathlib.Nat.{eq-or-lt-of-le}
 use native.Mathlib.Omega.{arith}
-use lib.Dec.{eqb}
-use lib.ListN.{length, take, drop, length-append, take-append-drop}
-use lib.Seq.{take-length, drop-length, drop-at, length-take-le}
-use borrow.Author.Tests.{eq-eqb, ne-eqb, eqb-true, eqb-false}
+use lib.ListN.{length, take, drop, getD, length-drop, take-append-drop}
+use lib.Seq.{take-length, drop-at, length-take-le}
+use borrow.Author.Tests.{eq-eqb, ne-eqb}
 use Rattle.utf8.specs.Grammar.{UTF8-char}
-use Rattle.utf8.specs.Encode.{pick, Scalar, encode, Begins, Begins-none, spelling, Scalars, Spells}
-use Rattle.utf8.specs.Decode.{classOf, decoded3, decoded4, byClass, decoded}
+use Rattle.utf8.specs.Encode.{Scalar, encode, Begins, Begins-none, spelling, Scalars, none, more, Spells}
+use Rattle.utf8.specs.Decode.{classOf, Right, decodedAfter, byClass, decoded, decodedBy}
 use Rattle.utf8.specs.Chars.{charsOf, validOf, measured}
 use Rattle.utf8.specs.Order.{Before}
 use Rattle.utf8.specs.declared.Decoded.{Decoded}
 use Rattle.utf8.specs.declared.Decoded.the-variants.{Char, Bad}
-use Rattle.utf8.specs.declared.Text.{Text}
 use Rattle.utf8.specs.declared.Text.the-variants.{Chars, BadAt}
-use Rattle.utf8.proofs.Encoded.{split, encoded, grammatical}
+use Rattle.utf8.proofs.Classed.{by-right-at}
+use Rattle.utf8.proofs.Encoded.{split, encode1, encode2, encode3, encode4, encoded, grammatical}
 use Rattle.utf8.proofs.Whole.{Stands, stands, chars-bad, valid-whole, valid-part}
 use Rattle.utf8.proofs.Ordered.{ahead, not-both, not-itself, which, spelt-before}
 use Rattle.utf8.proofs.Spelt.{at-front, chars-front, parts, valid-take, valid-drop, valid-most, chars-spelt}
@@ -53,6 +51,10 @@ decodes-bad s = (there, λ n. back n (decoded s) refl)
     back : Begins-none s → (d : Decoded) → decoded s ≡ d → decoded s ≡ Bad
     back n Bad e = e
     back n (Char c w) e = let t : Scalar c × Begins s c × (w ≡ length (encode c)) = decodes-char s c w .0 e in absurd (n c (t .0) (t .1))
+
+-- With a table that is right, the lent decoder says the same of a text of bytes.
+pub lent : {table : List ℕ} → Right table → (text : List ℕ) (at : ℕ) → getD text at 0 < 256 → decodedBy table (drop at text) ≡ decoded (drop at text)
+lent r text at h = by-right-at r text at h
 
 -- No encoding is the front of another, and what follows it is known.
 pub prefix-free : (c d : ℕ) (s t : List ℕ) → encode c ++ s ≡ encode d ++ t → (c ≡ d) × (s ≡ t)
@@ -130,6 +132,54 @@ measures-bad s k = (there, back)
         let n : validOf s ≡ length s → ⊥ = λ q. omega arith in
         rw (ne-eqb (validOf s) (length s) n, v)
 
+-- ---- a text character by character, for whoever walks one
+
+-- A character is one to four bytes wide.
+pub width : (c : ℕ) → (1 ≤ length (encode c)) × (length (encode c) ≤ 4)
+width c =
+    split c 0x7F (λ h. rw (encode1 c h) (omega arith))
+    (λ g. split c 0x7FF (λ h. rw (encode2 c g h) (omega arith))
+    (λ g. split c 0xFFFF (λ h. rw (encode3 c g h) (omega arith)) (λ g. rw (encode4 c g) (omega arith))))
+
+-- A character that is decoded lies within the text.
+pub inside : (text : List ℕ) (at : ℕ) {c w : ℕ} → decoded (drop at text) ≡ Char c w → (1 ≤ w) × (w ≤ 4) × (at + w ≤ length text)
+inside text at {c} {w} e =
+    let t : Stands (drop at text) c w = stands e in
+    (t .some, subst (λ (n : ℕ). n ≤ 4) (sym (t .width)) (width c .1), omega (arith, length-drop at text, t .inside, t .some))
+
+-- The first character of a text is what is decoded, and the others are those of what follows it.
+pub first-character : {s : List ℕ} {c : ℕ} {cs : List ℕ} → Spells s (c ∷ cs)
+    → (decoded s ≡ Char c (length (encode c))) × Spells (drop (length (encode c)) s) cs
+unfolding spelling
+first-character {s} {c} {cs} p = go (p .scalars)
+  where
+    go : Scalars (c ∷ cs) → (decoded s ≡ Char c (length (encode c))) × Spells (drop (length (encode c)) s) cs
+    go (more h r) = (
+      decodes-char s c (length (encode c)) .1 (h, (spelling cs, p .spelt), refl),
+      record { scalars = r; spelt = ap (drop (length (encode c))) (p .spelt) ∙ drop-at (encode c) (spelling cs) (length (encode c)) refl },
+    )
+
+-- A text with no characters is empty.
+pub no-character : {s : List ℕ} → Spells s [] → s ≡ []
+unfolding spelling
+no-character p = p .spelt
+
+-- Two texts one after the other have the characters of both.
+pub joined : {s t cs ds : List ℕ} → Spells s cs → Spells t ds → Spells (s ++ t) (cs ++ ds)
+unfolding spelling
+joined {s} {t} {cs} {ds} p q = record {
+  scalars = all (p .scalars) (q .scalars);
+  spelt = rw (p .spelt, q .spelt) (sym (both cs ds));
+}
+  where
+    all : {xs ys : List ℕ} → Scalars xs → Scalars ys → Scalars (xs ++ ys)
+    all none r = r
+    all (more h t) r = more h (all t r)
+
+    both : (xs ys : List ℕ) → spelling (xs ++ ys) ≡ spelling xs ++ spelling ys
+    both [] ys = refl
+    both (x ∷ xs) ys = ap (λ (l : List ℕ). encode x ++ l) (both xs ys) ∙ sym (append-assoc (encode x) (spelling xs) (spelling ys))
+
 -- ---- order
 
 -- The order of code points is the order of their octets,
@@ -162,5 +212,5 @@ pub examples :
     × (decoded (0xC0 ∷ 0x80 ∷ []) ≡ Bad)
     × (decoded (0xF4 ∷ 0x90 ∷ 0x80 ∷ 0x80 ∷ []) ≡ Bad)
     × (decoded (0xF4 ∷ 0x8F ∷ 0xBF ∷ 0xBF ∷ []) ≡ Char 0x10FFFF 4)
-unfolding decoded byClass classOf decoded3 decoded4
+unfolding decoded byClass classOf decodedAfter
 examples = (refl, refl, refl, refl)

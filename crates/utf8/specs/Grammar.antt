@@ -28,11 +28,11 @@ code2 a b = a % 32 * 64 + b % 64
 
 -- 1110xxxx 10xxxxxx 10xxxxxx
 abbrev pub code3 : ℕ → ℕ → ℕ → ℕ
-code3 a b c = a % 16 * 4096 + b % 64 * 64 + c % 64
+code3 a b c = (a % 16 * 64 + b % 64) * 64 + c % 64
 
 -- 11110xxx 10xxxxxx 10xxxxxx 10xxxxxx
 abbrev pub code4 : ℕ → ℕ → ℕ → ℕ → ℕ
-code4 a b c d = a % 8 * 262144 + b % 64 * 4096 + c % 64 * 64 + d % 64
+code4 a b c d = ((a % 8 * 64 + b % 64) * 64 + c % 64) * 64 + d % 64
 
 -- `UTF8-char octets code`: the octets are a character of the grammar, and its code point is `code`
 pub data UTF8-char : List ℕ → ℕ → Type 0 where

@@ -1,18 +1,22 @@
 // Which character stands at a position of a text, and which texts are UTF-8.
 //
 // This crate is step 1 of document 01's port order. RFC 3629 decides, and not the Rust. `decode` answers for one position,
-// `measure` for a whole text. Both go by one table of 256 classes of the first byte.
+// `measure` for a whole text. Both go by one table of 256 classes of the first byte. What is proved of them stands in
+// proofs/Theorems.antt.
 //
-// The table is lent. A constant array is built on the stack at each use: a decoder that indexed it anew for each character
-// took twice the time. So a loop takes `classes()` once and lends it to `decode_by`, and an ASCII byte, which is its own
-// character, is answered before the table is asked.
+// A constant array is built on the stack anew at each use, and the class of each character that is not ASCII is such a use.
+// So a loop over a text takes `classes()` once and lends it to `decode_by`. On a text whose script changes every few words,
+// eight scripts in all, `measure` so reads 800 MB/s, where a loop of `decode` reads 560 (x86-64). An ASCII byte is its own
+// character, and is answered before the table is asked.
 mod table;
 
+use table::class_in;
+use table::class_of;
 pub use table::classes;
 ghost use mathlib.Core.Path.{_≡_};
-ghost use Prim.Native.Nat.{_+_, _<_};
+ghost use Prim.Native.Nat.{_+_, _≤_, _<_};
 ghost use lib.ListN.{length, drop};
-ghost use Rattle.utf8.specs.Decode.{within, decoded2, decoded3, decoded4, decoded, decodedBy};
+ghost use Rattle.utf8.specs.Decode.{within, decodedAfter, byClass, decoded, decodedBy};
 ghost use Rattle.utf8.specs.Chars.{measured, validOf};
 
 // What stands at a position: a character, its code point and how many bytes it takes; or no character.
@@ -41,102 +45,58 @@ fn within(low: u8, high: u8, byte: u8) -> bool
     low <= byte && byte <= high
 }
 
-// UTF8-2, from its second byte on.
-fn two(text: &[u8], at: usize, first: u8) -> Decoded
-    requires { ⌜ at < length (now text) ⌝ }
-    ensures { λ r. ⌜ r ≡ decoded2 first (drop (at + 1) (now (text .entry))) ⌝ }
+// The bytes after the first, whose free bits are `lead`: one from `low` to `high`, and then so many UTF8-tails.
+fn follow(text: &[u8], at: usize, lead: u32, low: u8, high: u8, tails: usize) -> Decoded
+    requires { ⌜ (at < length (now text)) × (lead < 32) × (tails ≤ 2) ⌝ }
+    ensures { λ r. ⌜ r ≡ decodedAfter lead low high tails (drop (at + 1) (now (text .entry))) ⌝ }
 {
-    if text.len() - at < 2 {
+    let second = at + 1;
+    if text.len() <= second {
         return Decoded::Bad;
     }
-    let second = text[at + 1];
-    if !within(0x80, 0xBF, second) {
+    let byte = text[second];
+    if !within(low, high, byte) {
         return Decoded::Bad;
+    }
+    let mut code = lead * 64 + wide(byte) % 64;
+    let mut next = second + 1;
+    let mut left = tails;
+    while 0 < left {
+        if text.len() <= next {
+            return Decoded::Bad;
+        }
+        let tail = text[next];
+        if !within(0x80, 0xBF, tail) {
+            return Decoded::Bad;
+        }
+        code = code * 64 + wide(tail) % 64;
+        next += 1;
+        left -= 1;
     }
     Decoded::Char {
-        code: wide(first) % 32 * 64 + wide(second) % 64,
-        width: 2,
+        code,
+        width: tails + 2,
     }
 }
 
-// UTF8-3, from its second byte on, which lies from `low` to `high`.
-fn three(text: &[u8], at: usize, low: u8, high: u8, first: u8) -> Decoded
+// The character that a byte of a class begins.
+fn of_class(class: u8, text: &[u8], at: usize, byte: u8) -> Decoded
     requires { ⌜ at < length (now text) ⌝ }
-    ensures { λ r. ⌜ r ≡ decoded3 low high first (drop (at + 1) (now (text .entry))) ⌝ }
+    ensures { λ r. ⌜ r ≡ byClass class byte (drop (at + 1) (now (text .entry))) ⌝ }
 {
-    if text.len() - at < 3 {
-        return Decoded::Bad;
-    }
-    let second = text[at + 1];
-    let third = text[at + 2];
-    if !within(low, high, second) {
-        return Decoded::Bad;
-    }
-    if !within(0x80, 0xBF, third) {
-        return Decoded::Bad;
-    }
-    Decoded::Char {
-        code: wide(first) % 16 * 4096 + wide(second) % 64 * 64 + wide(third) % 64,
-        width: 3,
-    }
-}
-
-// UTF8-4, from its second byte on, which lies from `low` to `high`.
-fn four(text: &[u8], at: usize, low: u8, high: u8, first: u8) -> Decoded
-    requires { ⌜ at < length (now text) ⌝ }
-    ensures { λ r. ⌜ r ≡ decoded4 low high first (drop (at + 1) (now (text .entry))) ⌝ }
-{
-    if text.len() - at < 4 {
-        return Decoded::Bad;
-    }
-    let second = text[at + 1];
-    let third = text[at + 2];
-    let fourth = text[at + 3];
-    if !within(low, high, second) {
-        return Decoded::Bad;
-    }
-    if !within(0x80, 0xBF, third) {
-        return Decoded::Bad;
-    }
-    if !within(0x80, 0xBF, fourth) {
-        return Decoded::Bad;
-    }
-    Decoded::Char {
-        code: wide(first) % 8 * 262144
-            + wide(second) % 64 * 4096
-            + wide(third) % 64 * 64
-            + wide(fourth) % 64,
-        width: 4,
-    }
-}
-
-// The character at a position, by a lent table of classes. With the table of `classes` this is `decode`.
-pub fn decode_by(classes: &[u8; 256], text: &[u8], at: usize) -> Decoded
-    ensures { λ r. ⌜ r ≡ decodedBy (now (classes .entry)) (drop at (now (text .entry))) ⌝ }
-{
-    if text.len() <= at {
-        return Decoded::Bad;
-    }
-    let first = text[at];
-    if first < 0x80 {
-        return Decoded::Char {
-            code: wide(first),
-            width: 1,
-        };
-    }
-    let class = classes[first as usize];
+    let first = wide(byte);
     match class {
         1 => Decoded::Char {
-            code: wide(first),
+            code: first,
             width: 1,
         },
-        2 => two(text, at, first),
-        3 => three(text, at, 0xA0, 0xBF, first),
-        4 => three(text, at, 0x80, 0xBF, first),
-        5 => three(text, at, 0x80, 0x9F, first),
-        6 => four(text, at, 0x90, 0xBF, first),
-        7 => four(text, at, 0x80, 0xBF, first),
-        8 => four(text, at, 0x80, 0x8F, first),
+        2 => follow(text, at, first % 32, 0x80, 0xBF, 0),
+        3 => follow(text, at, first % 16, 0xA0, 0xBF, 1),
+        4 => follow(text, at, first % 16, 0x80, 0xBF, 1),
+        5 => follow(text, at, first % 16, 0x80, 0x9F, 1),
+        6 => follow(text, at, first % 8, 0x90, 0xBF, 2),
+        7 => follow(text, at, first % 8, 0x80, 0xBF, 2),
+        8 => follow(text, at, first % 8, 0x80, 0x8F, 2),
         _ => Decoded::Bad,
     }
 }
@@ -145,8 +105,34 @@ pub fn decode_by(classes: &[u8; 256], text: &[u8], at: usize) -> Decoded
 pub fn decode(text: &[u8], at: usize) -> Decoded
     ensures { λ r. ⌜ r ≡ decoded (drop at (now (text .entry))) ⌝ }
 {
-    let table = classes();
-    decode_by(&table, text, at)
+    if text.len() <= at {
+        return Decoded::Bad;
+    }
+    let byte = text[at];
+    if byte < 0x80 {
+        return Decoded::Char {
+            code: wide(byte),
+            width: 1,
+        };
+    }
+    of_class(class_of(byte), text, at, byte)
+}
+
+// The same by a lent table of classes. With the table of `classes` the answer is that of `decode`.
+pub fn decode_by(classes: &[u8; 256], text: &[u8], at: usize) -> Decoded
+    ensures { λ r. ⌜ r ≡ decodedBy (now (classes .entry)) (drop at (now (text .entry))) ⌝ }
+{
+    if text.len() <= at {
+        return Decoded::Bad;
+    }
+    let byte = text[at];
+    if byte < 0x80 {
+        return Decoded::Char {
+            code: wide(byte),
+            width: 1,
+        };
+    }
+    of_class(class_in(classes, byte), text, at, byte)
 }
 
 // How many characters a text has, or where it stops being UTF-8.

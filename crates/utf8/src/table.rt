@@ -3,7 +3,8 @@
 //     1  UTF8-1, 00-7F          4  UTF8-3, E1-EC and EE-EF     7  UTF8-4, F1-F3
 //     2  UTF8-2, C2-DF          5  UTF8-3, ED                  8  UTF8-4, F4
 //     3  UTF8-3, E0             6  UTF8-4, F0                  0  none: no character begins with it
-ghost use Rattle.utf8.specs.Decode.{Right};
+ghost use mathlib.Core.Path.{_≡_};
+ghost use Rattle.utf8.specs.Decode.{classOf, classIn, Right};
 
 const CLASSES: [u8; 256] = [
     1,
@@ -264,7 +265,22 @@ const CLASSES: [u8; 256] = [
     0,
 ];
 
-// The table, right at every entry.
+// The class that a lent table gives a byte.
+pub fn class_in(classes: &[u8; 256], byte: u8) -> u8
+    ensures { λ r. ⌜ r ≡ classIn (now (classes .entry)) byte ⌝ }
+{
+    classes[byte as usize]
+}
+
+// The class of a first byte.
+pub fn class_of(byte: u8) -> u8
+    ensures { λ r. ⌜ r ≡ classOf byte ⌝ }
+{
+    let table = CLASSES;
+    class_in(&table, byte)
+}
+
+// The whole table, for a loop that lends it.
 pub fn classes() -> [u8; 256]
     ensures { λ r. ⌜ Right r ⌝ }
 {

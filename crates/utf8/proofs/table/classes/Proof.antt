@@ -7,7 +7,7 @@ use Rattle.utf8.proofs.table.classes.Tie as tie
 
 returns : tie.Need-returns
 unfolding is-class
-returns c = right-table refl tt
+returns c = right-table _ refl tt
 
 pub classes-spec : {M : Type 1} → statement M
 classes-spec = tie.close (tie.spec returns)

@@ -1,12 +1,14 @@
 #!/usr/bin/env python3
-"""Compile a tool of the mathematics and run it.
+"""Compile a tool that is written in Rust, and run it.
 
-    python3 tools/math/run.py compare [--library FILE]    bits against the law
-    python3 tools/math/run.py bench [--library FILE]      speed against libm
-    python3 tools/math/run.py filter                      the reference as a filter
+    python3 tools/rust.py compare [--library FILE]       bits against docs/MATH.md's law
+    python3 tools/rust.py bench-math [--library FILE]    speed against libm
+    python3 tools/rust.py bench-utf8 [--library FILE]    speed against std::str::from_utf8
+    python3 tools/rust.py filter                         the reference as a filter
 
-The library is the static library with the proved code. It is looked for in
-target/ if none is named.
+The library is the static library with the proved code, which
+tools/native-staticlib export writes. It is looked for in target/ if none is
+named.
 """
 
 import argparse
@@ -14,13 +16,14 @@ import subprocess
 import sys
 from pathlib import Path
 
-ROOT = Path(__file__).resolve().parents[2]
+ROOT = Path(__file__).resolve().parents[1]
 LIBRARIES = ["target/native/libexport.a", "target/staticlib/libexport.a"]
 
 # Tool: its source, and whether it links the proved code.
 TOOLS = {
     "compare": ("tools/math/compare.rs", True),
-    "bench": ("tools/bench/math.rs", True),
+    "bench-math": ("tools/bench/math.rs", True),
+    "bench-utf8": ("tools/bench/utf8.rs", True),
     "filter": ("tools/math/filter.rs", False),
 }
 
@@ -31,20 +34,20 @@ def library(named):
     for place in places:
         if place.is_file():
             return place
-    sys.exit("run: no library at " + " or ".join(map(str, places)))
+    sys.exit("rust: no library at " + " or ".join(map(str, places)))
 
 
 def compile_tool(tool, named):
-    """Compile one tool. Its program stands at target/tools/math_TOOL."""
+    """Compile one tool. Its program stands at target/tools/TOOL."""
     source, linked = TOOLS[tool]
-    program = ROOT / "target/tools" / f"math_{tool}"
+    program = ROOT / "target/tools" / tool
     program.parent.mkdir(parents=True, exist_ok=True)
     command = ["rustc", "--edition", "2021", "-C", "opt-level=3", "-D", "warnings"]
     command += ["-o", str(program), str(ROOT / source)]
     if linked:
         command += ["-C", f"link-arg={library(named)}"]
     if subprocess.run(command).returncode:
-        sys.exit("run: rustc failed")
+        sys.exit("rust: rustc failed")
     return program
 
 
