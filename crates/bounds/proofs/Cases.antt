@@ -9,10 +9,10 @@ use lib.Dec.{T, ltb, eqb, ltb→lt, lt→ltb, eqb→eq}
 use lib.IntN.{ℤ, pos}
 use lib.Ieee.{Float, nan, inf, fin, up, down, neg, lt, le, eq, ofBits}
 use lib.Ieee.Fits.{and-i, and-l, and-r, eq→eqb, down-pos}
-use lib.Ieee.Positive.{num, den}
-use Rattle.rounding.specs.Units.{plain}
+use lib.Ieee.Positive.{num}
 use Rattle.rounding.proofs.Values.{or-left, or-right, or-split}
 use Rattle.math.specs.Steps.{zero, half, one, end, lit}
+use Rattle.bounds.specs.Fraction.{size}
 
 -- at most zero: below it, or equal to it
 pub below-or-zero : (x : Float) → T (le x zero) → T (lt x zero) ⊎ T (eq x zero)
@@ -182,14 +182,8 @@ under-neg (fin false m e) h k = absurd (none (m * up e * 1) (down e) (ltb→lt (
     none a d h = omega arith
 
 -- ---- a float and its negation have one size
-pub neg-num : (x : Float) → num (neg x) ≡ num x
+pub neg-size : (x : Float) → size (neg x) ≡ size x
 unfolding neg
-neg-num nan = refl
-neg-num (inf s) = refl
-neg-num (fin s m e) = refl
-
-pub neg-den : (x : Float) → den (neg x) ≡ den x
-unfolding neg
-neg-den nan = refl
-neg-den (inf s) = refl
-neg-den (fin s m e) = refl
+neg-size nan = refl
+neg-size (inf s) = refl
+neg-size (fin s m e) = refl

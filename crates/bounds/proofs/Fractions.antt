@@ -1,13 +1,17 @@
--- From units to the fractions that the bounds speak of: z is nz / dz with nz * U = z * dz, and so on. S is twice the error in units, W the slack's 2 ^ 40. Assumes nothing.
+-- From units to the fractions that the bounds speak of. z units are the fraction nz / dz, with nz * U = z * dz; S is twice the error in units, and 1 / W the slack. Assumes nothing.
 use mathlib.Core.Path.{_≡_, sym, ap, _∙_}
 use Prim.Native.Nat.{ℕ, _+_, _*_, _≤_, _<_}
 use native.Mathlib.Nat.{le-trans, le-of-eq, mul-comm, mul-assoc, mul-left-comm, mul-le-mul-right, le-of-mul-le-mul-right, mul-pos}
 use native.Mathlib.Omega.{arith}
 use lib.Dec.{lit<}
+use Rattle.bounds.specs.Fraction.{Fraction, Within, whole, half, inverse, _⊞_, _⊠_}
+
+abbrev pub frac : ℕ → ℕ → Fraction
+frac n d = record { over = n; under = d }
 
 -- ---- 1 - t ≤ r, for exp and, with x for t, for ln
-pub below-one : (U S W r t nr dr nt dt : ℕ) → 0 < U → nr * U ≡ r * dr → nt * U ≡ t * dt → S * W ≤ U * 2 → U * 2 ≤ r * 2 + t * 2 + S → dt * dr * W ≤ (nr * dt + nt * dr) * W + dt * dr
-below-one U S W r t nr dr nt dt z er et s h = le-of-mul-le-mul-right go (mul-pos z (lit< tt))
+below-one-raw : (U S W r t nr dr nt dt : ℕ) → 0 < U → nr * U ≡ r * dr → nt * U ≡ t * dt → S * W ≤ U * 2 → U * 2 ≤ r * 2 + t * 2 + S → dt * dr * W ≤ (nr * dt + nt * dr) * W + dt * dr
+below-one-raw U S W r t nr dr nt dt z er et s h = le-of-mul-le-mul-right go (mul-pos z (lit< tt))
   where
     go : dt * dr * W * (U * 2) ≤ ((nr * dt + nt * dr) * W + dt * dr) * (U * 2)
     go =
@@ -18,9 +22,9 @@ below-one U S W r t nr dr nt dt z er et s h = le-of-mul-le-mul-right go (mul-pos
         omega (arith, A, B, C, D)
 
 -- ---- r ≤ 1 - t + t² / 2, for exp
-pub exp-high : (U S W r t nr dr nt dt : ℕ) → 0 < U → nr * U ≡ r * dr → nt * U ≡ t * dt → S * W ≤ U * 2 → r * U * 2 + t * U * 2 ≤ U * U * 2 + t * t + U * S
+exp-high-raw : (U S W r t nr dr nt dt : ℕ) → 0 < U → nr * U ≡ r * dr → nt * U ≡ t * dt → S * W ≤ U * 2 → r * U * 2 + t * U * 2 ≤ U * U * 2 + t * t + U * S
     → (nr * dt + nt * dr) * dt * 2 * W ≤ (dt * dt * 2 + nt * nt) * dr * W + dt * dt * dr * 2
-exp-high U S W r t nr dr nt dt z er et s h =
+exp-high-raw U S W r t nr dr nt dt z er et s h =
     let UU = U * U in
     let D = dt * dt in
     let K = dr * (D * W) in
@@ -47,8 +51,8 @@ exp-high U S W r t nr dr nt dt z er et s h =
     right U nt dr dt W = omega arith
 
 -- ---- r ≤ y and y - y² / 2 ≤ r, for ln_1p
-pub ln1p-high : (U S W z y nz dz ny dy : ℕ) → 0 < U → nz * U ≡ z * dz → ny * U ≡ y * dy → S * W ≤ U * 2 → z * 2 ≤ y * 2 + S → nz * dy * W ≤ ny * dz * W + dy * dz
-ln1p-high U S W z y nz dz ny dy p ez ey s h = le-of-mul-le-mul-right go (mul-pos p (lit< tt))
+ln1p-high-raw : (U S W z y nz dz ny dy : ℕ) → 0 < U → nz * U ≡ z * dz → ny * U ≡ y * dy → S * W ≤ U * 2 → z * 2 ≤ y * 2 + S → nz * dy * W ≤ ny * dz * W + dy * dz
+ln1p-high-raw U S W z y nz dz ny dy p ez ey s h = le-of-mul-le-mul-right go (mul-pos p (lit< tt))
   where
     go : nz * dy * W * (U * 2) ≤ (ny * dz * W + dy * dz) * (U * 2)
     go =
@@ -58,9 +62,9 @@ ln1p-high U S W z y nz dz ny dy p ez ey s h = le-of-mul-le-mul-right go (mul-pos
         let F = mul-le-mul-right (dy * dz) s in
         omega (arith, A, B, D, F)
 
-pub ln1p-low : (U S W z y nz dz ny dy : ℕ) → 0 < U → nz * U ≡ z * dz → ny * U ≡ y * dy → S * W ≤ U * 2 → y * U * 2 ≤ z * U * 2 + y * y + U * S
+ln1p-low-raw : (U S W z y nz dz ny dy : ℕ) → 0 < U → nz * U ≡ z * dz → ny * U ≡ y * dy → S * W ≤ U * 2 → y * U * 2 ≤ z * U * 2 + y * y + U * S
     → ny * dy * dz * 2 * W ≤ (nz * dy * dy * 2 + ny * ny * dz) * W + dy * dy * dz * 2
-ln1p-low U S W z y nz dz ny dy p ez ey s h =
+ln1p-low-raw U S W z y nz dz ny dy p ez ey s h =
     let D = dy * dy in
     let K = dz * (D * W) in
     let x1 : z * U * K ≡ nz * D * W * (U * U) = simp (mul-assoc, mul-comm, mul-left-comm) (simp (mul-assoc, mul-comm, mul-left-comm) at (ap (λ (x : ℕ). x * (U * (D * W))) (sym ez))) in
@@ -86,8 +90,8 @@ ln1p-low U S W z y nz dz ny dy p ez ey s h =
     right U nz ny dz dy W = omega arith
 
 -- ---- z ≤ 1 / x - 1, for ln
-pub ln-high : (U S W z x nz dz nx dx : ℕ) → 0 < U → nz * U ≡ z * dz → nx * U ≡ x * dx → S * W ≤ x * 2 → (z + U) * x * 2 ≤ U * U * 2 + U * S → (nz + dz) * nx * W ≤ dz * dx * W + nx * dz
-ln-high U S W z x nz dz nx dx p ez ex s h =
+ln-high-raw : (U S W z x nz dz nx dx : ℕ) → 0 < U → nz * U ≡ z * dz → nx * U ≡ x * dx → S * W ≤ x * 2 → (z + U) * x * 2 ≤ U * U * 2 + U * S → (nz + dz) * nx * W ≤ dz * dx * W + nx * dz
+ln-high-raw U S W z x nz dz nx dx p ez ex s h =
     let UU = U * U in
     let K = dz * (dx * W) in
     let x1 : z * x * K ≡ nz * nx * W * UU = simp (mul-assoc, mul-comm, mul-left-comm) (simp (mul-assoc, mul-comm, mul-left-comm) at (ap (λ (y : ℕ). y * (x * dx) * W) (sym ez) ∙ ap (λ (y : ℕ). nz * U * y * W) (sym ex))) in
@@ -111,3 +115,38 @@ ln-high U S W z x nz dz nx dx p ez ex s h =
 
     right : (dz dx nx W UU : ℕ) → UU * (dz * (dx * W)) * 2 + nx * dz * 2 * UU ≡ (dz * dx * W + nx * dz) * (UU * 2)
     right dz dx nx W UU = omega arith
+
+-- ---- the same, as the bounds say them
+pub below-one : (U S W r t nr dr nt dt : ℕ) → 0 < U → nr * U ≡ r * dr → nt * U ≡ t * dt → S * W ≤ U * 2 → U * 2 ≤ r * 2 + t * 2 + S → Within W (whole 1) (frac nr dr ⊞ frac nt dt)
+below-one U S W r t nr dr nt dt z er et s h = shape nr dr nt dt W (below-one-raw U S W r t nr dr nt dt z er et s h)
+  where
+    shape : (nr dr nt dt W : ℕ) → dt * dr * W ≤ (nr * dt + nt * dr) * W + dt * dr → 1 * (dr * dt) * W ≤ (nr * dt + nt * dr) * 1 * W + 1 * (dr * dt)
+    shape nr dr nt dt W h = omega arith
+
+pub exp-high : (U S W r t nr dr nt dt : ℕ) → 0 < U → nr * U ≡ r * dr → nt * U ≡ t * dt → S * W ≤ U * 2 → r * U * 2 + t * U * 2 ≤ U * U * 2 + t * t + U * S
+    → Within W (frac nr dr ⊞ frac nt dt) (whole 1 ⊞ half (frac nt dt ⊠ frac nt dt))
+exp-high U S W r t nr dr nt dt z er et s h = shape nr dr nt dt W (mul-le-mul-right dt (exp-high-raw U S W r t nr dr nt dt z er et s h))
+  where
+    shape : (nr dr nt dt W : ℕ) → (nr * dt + nt * dr) * dt * 2 * W * dt ≤ ((dt * dt * 2 + nt * nt) * dr * W + dt * dt * dr * 2) * dt
+        → (nr * dt + nt * dr) * (1 * (dt * dt * 2)) * W ≤ (1 * (dt * dt * 2) + nt * nt * 1) * (dr * dt) * W + dr * dt * (1 * (dt * dt * 2))
+    shape nr dr nt dt W h = omega arith
+
+pub ln1p-high : (U S W z y nz dz ny dy : ℕ) → 0 < U → nz * U ≡ z * dz → ny * U ≡ y * dy → S * W ≤ U * 2 → z * 2 ≤ y * 2 + S → Within W (frac nz dz) (frac ny dy)
+ln1p-high U S W z y nz dz ny dy p ez ey s h = shape nz dz ny dy W (ln1p-high-raw U S W z y nz dz ny dy p ez ey s h)
+  where
+    shape : (nz dz ny dy W : ℕ) → nz * dy * W ≤ ny * dz * W + dy * dz → nz * dy * W ≤ ny * dz * W + dz * dy
+    shape nz dz ny dy W h = omega arith
+
+pub ln1p-low : (U S W z y nz dz ny dy : ℕ) → 0 < U → nz * U ≡ z * dz → ny * U ≡ y * dy → S * W ≤ U * 2 → y * U * 2 ≤ z * U * 2 + y * y + U * S
+    → Within W (frac ny dy) (frac nz dz ⊞ half (frac ny dy ⊠ frac ny dy))
+ln1p-low U S W z y nz dz ny dy p ez ey s h = shape nz dz ny dy W (mul-le-mul-right dy (ln1p-low-raw U S W z y nz dz ny dy p ez ey s h))
+  where
+    shape : (nz dz ny dy W : ℕ) → ny * dy * dz * 2 * W * dy ≤ ((nz * dy * dy * 2 + ny * ny * dz) * W + dy * dy * dz * 2) * dy
+        → ny * (dz * (dy * dy * 2)) * W ≤ (nz * (dy * dy * 2) + ny * ny * dz) * dy * W + dy * (dz * (dy * dy * 2))
+    shape nz dz ny dy W h = omega arith
+
+pub ln-high : (U S W z x nz dz nx dx : ℕ) → 0 < U → nz * U ≡ z * dz → nx * U ≡ x * dx → S * W ≤ x * 2 → (z + U) * x * 2 ≤ U * U * 2 + U * S → Within W (frac nz dz ⊞ whole 1) (inverse (frac nx dx))
+ln-high U S W z x nz dz nx dx p ez ex s h = shape nz dz nx dx W (ln-high-raw U S W z x nz dz nx dx p ez ex s h)
+  where
+    shape : (nz dz nx dx W : ℕ) → (nz + dz) * nx * W ≤ dz * dx * W + nx * dz → (nz * 1 + 1 * dz) * nx * W ≤ dx * (dz * 1) * W + dz * 1 * nx
+    shape nz dz nx dx W h = omega arith

@@ -17,11 +17,13 @@ use Rattle.rounding.specs.Units.{Is, Sized, Minus}
 use Rattle.rounding.specs.Grid.{cut, index, rest}
 use Rattle.rounding.proofs.Values.{le-units}
 use Rattle.tables.specs.Tables.{entry, mlogs}
-use Rattle.math.specs.Steps.{zero, half, one, end, lit, grid128, expNeg, expSteps, lnRise, lnHalf, lnBelow, lnAbove, lnPositive, lnSteps, ln1pUnit, ln1pSteps, _⊖_, _⊘_}
+use Rattle.math.specs.Steps.{zero, half as one-half, one, end, lit, grid128, expNeg, expSteps, lnRise, lnHalf, lnBelow, lnAbove, lnPositive, lnSteps, ln1pUnit, ln1pSteps, _⊖_, _⊘_}
 use Rattle.math.proofs.Places.{one-is, exp-digits, exp-units}
 use Rattle.math.proofs.Tests.{yes, no, neg-above, neg-under, from-half}
+use Rattle.bounds.specs.Fraction.{Fraction, size, whole, half, Within, _⊞_, _⊠_, _≲_}
 use Rattle.bounds.specs.Bounds.{ExpNear, LnNear, Ln1pNear, floor}
-use Rattle.bounds.proofs.Cases.{below-or-zero, above-or-zero, zero-size, zero-not-below, zero-not-above, not-above, half-above, half-not-under, top-sound, bottom-sound, nan-sound, neg-one, one-under-end, under-neg, neg-num, neg-den}
+use Rattle.bounds.proofs.Cases.{below-or-zero, above-or-zero, zero-size, zero-not-below, zero-not-above, not-above, half-above, half-not-under, top-sound, bottom-sound, nan-sound, neg-one, one-under-end, under-neg, neg-size}
+use Rattle.bounds.proofs.Fractions.{frac}
 use Rattle.bounds.proofs.ExpKernel.{exp-neg-unit, exp-neg-near}
 use Rattle.bounds.proofs.LnKernel.{ln-half-is, ln-half-near}
 use Rattle.bounds.proofs.LnSides.{Side, minus-is, minus-side, below-side, below-sound, half-sound, above-sound}
@@ -94,24 +96,17 @@ exp-unit x F h = elim (below-or-zero x h) [
     go false e l = subst (λ (r : Float). T (le zero r) × T (le r one)) (sym (step-far x l e)) (unit-of zero (record { v = 0; is = zero-is; top = lit≤ tt }))
 
 turned : (x r : Float) → ExpNear (neg x) r → ExpNear x r
-turned x r n = record {
-  sign = n .sign;
-  low = subst (λ (d : ℕ). d * den r * 2 ^ 40 ≤ (num r * d + num x * den r) * 2 ^ 40 + d * den r) (neg-den x) (subst (λ (m : ℕ). den (neg x) * den r * 2 ^ 40 ≤ (num r * den (neg x) + m * den r) * 2 ^ 40 + den (neg x) * den r) (neg-num x) (n .low));
-  high = subst (λ (d : ℕ). (num r * d + num x * den r) * d * 2 * 2 ^ 40 ≤ (d * d * 2 + num x * num x) * den r * 2 ^ 40 + d * d * den r * 2) (neg-den x) (subst (λ (m : ℕ). (num r * den (neg x) + m * den r) * den (neg x) * 2 * 2 ^ 40 ≤ (den (neg x) * den (neg x) * 2 + m * m) * den r * 2 ^ 40 + den (neg x) * den (neg x) * den r * 2) (neg-num x) (n .high));
-}
+turned x r n = record { sign = n .sign; low = subst (λ (p : Fraction). whole 1 ≲ size r ⊞ p) (neg-size x) (n .low); high = subst (λ (p : Fraction). size r ⊞ p ≲ whole 1 ⊞ half (p ⊠ p)) (neg-size x) (n .high) }
 
 at-zero : (x : Float) → num x ≡ 0 → ExpNear x one
 unfolding ofBits
-at-zero x e = record { sign = tt; low = low (num x) (den x) (2 ^ 40) e; high = high (num x) (den x) (2 ^ 40) e }
+at-zero x e = record { sign = tt; low = low (num x) (den x) (2 ^ 40) e; high = subst (λ (n : ℕ). frac 1 1 ⊞ frac n (den x) ≲ whole 1 ⊞ half (frac n (den x) ⊠ frac n (den x))) (sym e) (high (den x) (2 ^ 40)) }
   where
-    low : (n d W : ℕ) → n ≡ 0 → d * 1 * W ≤ (1 * d + n * 1) * W + d * 1
+    low : (n d W : ℕ) → n ≡ 0 → Within W (whole 1) (frac 1 1 ⊞ frac n d)
     low n d W e = omega arith
 
-    high : (n d W : ℕ) → n ≡ 0 → (1 * d + n * 1) * d * 2 * W ≤ (d * d * 2 + n * n) * 1 * W + d * d * 1 * 2
-    high n d W e = subst (λ (m : ℕ). (1 * d + m * 1) * d * 2 * W ≤ (d * d * 2 + m * m) * 1 * W + d * d * 1 * 2) (sym e) (go d W)
-      where
-        go : (d W : ℕ) → (1 * d + 0 * 1) * d * 2 * W ≤ (d * d * 2 + 0 * 0) * 1 * W + d * d * 1 * 2
-        go d W = omega arith
+    high : (d W : ℕ) → Within W (frac 1 1 ⊞ frac 0 d) (whole 1 ⊞ half (frac 0 d ⊠ frac 0 d))
+    high d W = omega arith
 
 pub exp-near : (x : Float) → T (fits binary64 x) → T (le (neg one) x) → T (le x zero) → ExpNear x (expSteps x)
 exp-near x F a h = elim (below-or-zero x h) [
@@ -154,10 +149,10 @@ step-positive : (x : Float) → T (lt zero x) → lnSteps x ≡ lnPositive x
 unfolding lnSteps
 step-positive x h = simp (is-true (lt zero x) h)
 
-step-lower : (x : Float) → T (lt zero x) → lt x half ≡ true → lnSteps x ≡ lnBelow x
+step-lower : (x : Float) → T (lt zero x) → lt x one-half ≡ true → lnSteps x ≡ lnBelow x
 step-lower x h e = step-positive x h ∙ simp e
 
-step-upper : (x : Float) → T (lt zero x) → lt x half ≡ false → T (le x one) → lnSteps x ≡ zero ⊖ lnHalf x
+step-upper : (x : Float) → T (lt zero x) → lt x one-half ≡ false → T (le x one) → lnSteps x ≡ zero ⊖ lnHalf x
 step-upper x h e k = step-positive x h ∙ simp (e, is-true (le x one) k)
 
 pub ln-never-minus-zero : (x : Float) → T (fits binary64 x) → lnSteps x ≡ lit 0x8000_0000_0000_0000 → ⊥
@@ -168,11 +163,11 @@ ln-never-minus-zero x F = go (lt zero x) refl
     last true = above-sound x F
     last false = top-sound
 
-    upper : (b : Bool) → le x one ≡ b → T (le half x) → cond b (zero ⊖ lnHalf x) (cond (lt x (inf false)) (lnAbove x) (inf false)) ≡ lit 0x8000_0000_0000_0000 → ⊥
+    upper : (b : Bool) → le x one ≡ b → T (le one-half x) → cond b (zero ⊖ lnHalf x) (cond (lt x (inf false)) (lnAbove x) (inf false)) ≡ lit 0x8000_0000_0000_0000 → ⊥
     upper true e a = half-sound x F a (yes e)
     upper false e a = last (lt x (inf false))
 
-    lower : (b : Bool) → lt x half ≡ b → T (lt zero x) → cond b (lnBelow x) (cond (le x one) (zero ⊖ lnHalf x) (cond (lt x (inf false)) (lnAbove x) (inf false))) ≡ lit 0x8000_0000_0000_0000 → ⊥
+    lower : (b : Bool) → lt x one-half ≡ b → T (lt zero x) → cond b (lnBelow x) (cond (le x one) (zero ⊖ lnHalf x) (cond (lt x (inf false)) (lnAbove x) (inf false))) ≡ lit 0x8000_0000_0000_0000 → ⊥
     lower true e a = below-sound x F a (yes e)
     lower false e a = upper (le x one) refl (from-half x a (no e))
 
@@ -181,25 +176,25 @@ ln-never-minus-zero x F = go (lt zero x) refl
     rest false = nan-sound
 
     go : (b : Bool) → lt zero x ≡ b → cond b (lnPositive x) (cond (eq x zero) (inf true) nan) ≡ lit 0x8000_0000_0000_0000 → ⊥
-    go true e = lower (lt x half) refl (yes e)
+    go true e = lower (lt x one-half) refl (yes e)
     go false e = rest (eq x zero)
 
 -- ---- ln: from -745 to 0 for every x above 0 and up to 1, and near x - 1 from 1/2 to 1
-half-minus : (x : Float) (F : T (fits binary64 x)) (a : T (le half x)) (u : T (le x one)) → Minus (zero ⊖ lnHalf x) (ln-half-is x F a u .v)
+half-minus : (x : Float) (F : T (fits binary64 x)) (a : T (le one-half x)) (u : T (le x one)) → Minus (zero ⊖ lnHalf x) (ln-half-is x F a u .v)
 half-minus x F a u = minus-is (lnHalf x) (ln-half-is x F a u .v) (add-fits binary64 (entry mlogs (index grid128 (one ⊖ x))) (lnRise (rest grid128 (one ⊖ x) ⊘ (one ⊖ cut grid128 (one ⊖ x))))) (ln-half-is x F a u .is) (lt-of-le-of-lt (ln-half-is x F a u .top) (lit< tt))
 
-half-side : (x : Float) → T (fits binary64 x) → T (le half x) → T (le x one) → Side (zero ⊖ lnHalf x)
+half-side : (x : Float) → T (fits binary64 x) → T (le one-half x) → T (le x one) → Side (zero ⊖ lnHalf x)
 half-side x F a u = minus-side (zero ⊖ lnHalf x) (ln-half-is x F a u .v) (half-minus x F a u) (le-trans (ln-half-is x F a u .top) (lit≤ tt))
 
 pub ln-range : (x : Float) → T (fits binary64 x) → T (lt zero x) → T (le x one) → T (le floor (lnSteps x)) × T (le (lnSteps x) zero)
-ln-range x F a u = go (lt x half) refl
+ln-range x F a u = go (lt x one-half) refl
   where
-    go : (b : Bool) → lt x half ≡ b → T (le floor (lnSteps x)) × T (le (lnSteps x) zero)
+    go : (b : Bool) → lt x one-half ≡ b → T (le floor (lnSteps x)) × T (le (lnSteps x) zero)
     go true e = subst Side (sym (step-lower x a e)) (below-side x F a (yes e))
     go false e = subst Side (sym (step-upper x a e u)) (half-side x F (from-half x a (no e)) u)
 
-pub ln-near : (x : Float) → T (fits binary64 x) → T (le half x) → T (le x one) → LnNear x (lnSteps x)
-ln-near x F a u = subst (λ (r : Float). LnNear x r) (sym (step-upper x (half-above x a) (bool (lt x half) (half-not-under x a)) u)) (ln-half-near x F a u (zero ⊖ lnHalf x) (half-minus x F a u .size) (half-side x F a u))
+pub ln-near : (x : Float) → T (fits binary64 x) → T (le one-half x) → T (le x one) → LnNear x (lnSteps x)
+ln-near x F a u = subst (λ (r : Float). LnNear x r) (sym (step-upper x (half-above x a) (bool (lt x one-half) (half-not-under x a)) u)) (ln-half-near x F a u (zero ⊖ lnHalf x) (half-minus x F a u .size) (half-side x F a u))
 
 -- ---- ln_1p: exact values, and near y from 0 to 1
 pub ln1p-zero : ln1pSteps (lit 0) ≡ lit 0
@@ -224,16 +219,13 @@ ln1p-step-zero y h = simp (bool (lt zero y) (zero-not-above y h), is-true (eq y 
 
 ln1p-at-zero : (y : Float) → num y ≡ 0 → Ln1pNear y zero
 unfolding ofBits
-ln1p-at-zero y e = record { sign = tt; high = high (num y) (den y) (2 ^ 40); low = low (num y) (den y) (2 ^ 40) e }
+ln1p-at-zero y e = record { sign = tt; high = high (num y) (den y) (2 ^ 40); low = subst (λ (n : ℕ). frac n (den y) ≲ frac 0 1 ⊞ half (frac n (den y) ⊠ frac n (den y))) (sym e) (low (den y) (2 ^ 40)) }
   where
-    high : (n d W : ℕ) → 0 * d * W ≤ n * 1 * W + d * 1
+    high : (n d W : ℕ) → Within W (frac 0 1) (frac n d)
     high n d W = omega arith
 
-    low : (n d W : ℕ) → n ≡ 0 → n * d * 1 * 2 * W ≤ (0 * d * d * 2 + n * n * 1) * W + d * d * 1 * 2
-    low n d W e = subst (λ (m : ℕ). m * d * 1 * 2 * W ≤ (0 * d * d * 2 + m * m * 1) * W + d * d * 1 * 2) (sym e) (go d W)
-      where
-        go : (d W : ℕ) → 0 * d * 1 * 2 * W ≤ (0 * d * d * 2 + 0 * 0 * 1) * W + d * d * 1 * 2
-        go d W = omega arith
+    low : (d W : ℕ) → Within W (frac 0 d) (frac 0 1 ⊞ half (frac 0 d ⊠ frac 0 d))
+    low d W = omega arith
 
 pub ln1p-near : (y : Float) → T (fits binary64 y) → T (le zero y) → T (le y one) → Ln1pNear y (ln1pSteps y)
 ln1p-near y F a u = elim (above-or-zero y a) [

@@ -165,11 +165,3 @@ pub fn valid_up_to(text: &[u8]) -> usize
         Text::BadAt(at) => at,
     }
 }
-
-// The same for a program in another language: the text as its pointer and its length.
-#[no_mangle]
-pub extern "C" fn utf8_valid_up_to(text: &[u8]) -> usize
-    ensures { λ r. ⌜ r ≡ validOf (now (text .entry)) ⌝ }
-{
-    valid_up_to(text)
-}
