@@ -39,8 +39,8 @@ unfolding ofBits
 part120-is = (refl, refl)
 
 -- ---- a product of at most 2 ^ B units, by its factors' tops
-product : {a b : ℕ} (A B C : ℕ) → a ≤ 2 ^ A → b ≤ 2 ^ B → 2 ^ A * 2 ^ B ≤ 2 ^ 1074 * 2 ^ C → a * b ≤ 2 ^ 1074 * 2 ^ C
-product A B C h k l = le-trans (mul-le-mul h k) l
+product : (a b A B C : ℕ) → a ≤ 2 ^ A → b ≤ 2 ^ B → 2 ^ A * 2 ^ B ≤ 2 ^ 1074 * 2 ^ C → a * b ≤ 2 ^ 1074 * 2 ^ C
+product a b A B C h k l = le-trans (mul-le-mul h k) l
 
 -- ---- f - f² q, with q = 1/2 - c f + w f²: from f - f² / 2 to f
 pub record Fall (z : Float) (a : ℕ) : Type 0 where
@@ -100,21 +100,21 @@ sum-top x y h k l = omega arith
 pub fall-near : (f c w : Float) (a b ω : ℕ) → T (fits binary64 f) → Is f a → Is c b → Is w ω → a ≤ 2 ^ 1068 → 2 ^ 1071 ≤ b → b ≤ 2 ^ 1073 → ω ≤ 2 ^ 1073 → Fall (fall f c w) a
 fall-near f c w a b ω F if ic iw la gb lb lw =
     let U = 2 ^ 1074 in
-    let s = mul-near f f a a 1062 if if (lit< tt) (product 1068 1068 1062 la la (lit≤ tt)) in
-    let m = mul-near f c a b 1067 if ic (lit< tt) (product 1068 1073 1067 la lb (lit≤ tt)) in
+    let s = mul-near f f a a 1062 if if (lit< tt) (product a a 1068 1068 1062 la la (lit≤ tt)) in
+    let m = mul-near f c a b 1067 if ic (lit< tt) (product a b 1068 1073 1067 la lb (lit≤ tt)) in
     let m-small : m .v ≤ 2 ^ 1073 = le-trans (m .top) (lit≤ tt) in
     let α = sub-near half (f ⊗ c) (2 ^ 1073) (m .v) 1073 half-is (m .is) m-small (lit< tt) (under (2 ^ 1073) (m .v) (2 ^ 1073) (le-refl (2 ^ 1073))) in
-    let z = mul-near (f ⊗ f) w (s .v) ω 1061 (s .is) iw (lit< tt) (product 1062 1073 1061 (s .top) lw (lit≤ tt)) in
+    let z = mul-near (f ⊗ f) w (s .v) ω 1061 (s .is) iw (lit< tt) (product (s .v) ω 1062 1073 1061 (s .top) lw (lit≤ tt)) in
     let q = add-near (half ⊖ f ⊗ c) (f ⊗ f ⊗ w) (α .v) (z .v) 1074 (α .is) (z .is) (lit< tt) (sum-top (α .v) (z .v) (α .top) (z .top) (lit≤ tt)) in
     let Q = (half ⊖ f ⊗ c) ⊕ f ⊗ f ⊗ w in
-    let k = mul-near (f ⊗ f) Q (s .v) (q .v) 1062 (s .is) (q .is) (lit< tt) (product 1062 1074 1062 (s .top) (q .top) (lit≤ tt)) in
+    let k = mul-near (f ⊗ f) Q (s .v) (q .v) 1062 (s .is) (q .is) (lit< tt) (product (s .v) (q .v) 1062 1074 1062 (s .top) (q .top) (lit≤ tt)) in
     let gf = digits f F (plain-is f a if) in
     let ef : gf .m * 2 ^ gf .s ≡ a = one-number f (gf .m * 2 ^ gf .s) a (gf .is) if in
     let gs = digits (f ⊗ f) (mul-fits binary64 f f) (plain-is (f ⊗ f) (s .v) (s .is)) in
     let es : gs .m * 2 ^ gs .s ≡ s .v = one-number (f ⊗ f) (gs .m * 2 ^ gs .s) (s .v) (gs .is) (s .is) in
-    let s-a : s .v ≤ a = le-trans (mul-no-more f f gf a (s .v) (lt-of-le-of-lt (le-of-eq ef) (lt-of-le-of-lt la (lit< tt))) if (le-trans la (lit≤ tt)) (s .is)) (le-of-eq ef) in
-    let k-s : k .v ≤ s .v = le-trans (mul-no-more (f ⊗ f) Q gs (q .v) (k .v) (lt-of-le-of-lt (le-of-eq es) (lt-of-le-of-lt (s .top) (lit< tt))) (q .is) (q .top) (k .is)) (le-of-eq es) in
-    let k-a : k .v ≤ a = le-trans k-s s-a in
+    let s-a : s .v ≤ a = le-trans {n = s .v} (mul-no-more f f gf a (s .v) (lt-of-le-of-lt (le-of-eq ef) (lt-of-le-of-lt la (lit< tt))) if (le-trans la (lit≤ tt)) (s .is)) (le-of-eq ef) in
+    let k-s : k .v ≤ s .v = le-trans {n = k .v} (mul-no-more (f ⊗ f) Q gs (q .v) (k .v) (lt-of-le-of-lt (le-of-eq es) (lt-of-le-of-lt (s .top) (lit< tt))) (q .is) (q .top) (k .is)) (le-of-eq es) in
+    let k-a : k .v ≤ a = le-trans {n = k .v} k-s s-a in
     let r = sub-near f (f ⊗ f ⊗ Q) a (k .v) 1068 if (k .is) k-a (lit< tt) (under a (k .v) (2 ^ 1068) la) in
     let z-m : z .v * 2 ≤ m .v * 2 + 2 ^ 1013 =
     far-under a (s .v) (m .v) (z .v) (2 ^ 1010) (2 ^ 1015) (2 ^ 1009) (2 ^ 1013)
@@ -149,7 +149,7 @@ poly-high U a g v e e' E o h k l =
 pub exp-poly-near : (f : Float) (a : ℕ) → T (fits binary64 f) → Is f a → a ≤ 2 ^ 1068 → Poly (expPoly f) a
 exp-poly-near f a F i l =
     let U = 2 ^ 1074 in
-    let m = mul-near f part120 a (0x11_1111_1111_1111 * 2 ^ 1015) 1062 i part120-is (lit< tt) (product 1068 1068 1062 l (lit≤ tt) (lit≤ tt)) in
+    let m = mul-near f part120 a (0x11_1111_1111_1111 * 2 ^ 1015) 1062 i part120-is (lit< tt) (product a (0x11_1111_1111_1111 * 2 ^ 1015) 1068 1068 1062 l (lit≤ tt) (lit≤ tt)) in
     let w = sub-near part24 (f ⊗ part120) (0x15_5555_5555_5555 * 2 ^ 1017) (m .v) 1070 part24-is (m .is) (le-trans (m .top) (lit≤ tt)) (lit< tt) (under (0x15_5555_5555_5555 * 2 ^ 1017) (m .v) (2 ^ 1070) (lit≤ tt)) in
     let g = fall-near f sixth (part24 ⊖ f ⊗ part120) a (0x15_5555_5555_5555 * 2 ^ 1019) (w .v) F i sixth-is (w .is) l (lit≤ tt) (lit≤ tt) (le-trans (w .top) (lit≤ tt)) in
     let o : g .v ≤ U = le-trans (g .top) (lit≤ tt) in
@@ -165,10 +165,10 @@ exp-poly-near f a F i l =
 -- ---- ln_1p: from r - r² / 2 to r
 pub ln-fall-near : (r : Float) (a : ℕ) → T (fits binary64 r) → Is r a → a ≤ 2 ^ 1068 → Fall (lnFall r) a
 ln-fall-near r a F i l =
-    let m = mul-near r fifth a (0x19_9999_9999_999a * 2 ^ 1019) 1068 i fifth-is (lit< tt) (product 1068 1072 1068 l (lit≤ tt) (lit≤ tt)) in
+    let m = mul-near r fifth a (0x19_9999_9999_999a * 2 ^ 1019) 1068 i fifth-is (lit< tt) (product a (0x19_9999_9999_999a * 2 ^ 1019) 1068 1072 1068 l (lit≤ tt) (lit≤ tt)) in
     let x = sub-near quarter (r ⊗ fifth) (2 ^ 1072) (m .v) 1072 quarter-is (m .is) (le-trans (m .top) (lit≤ tt)) (lit< tt) (under (2 ^ 1072) (m .v) (2 ^ 1072) (le-refl (2 ^ 1072))) in
-    let s = mul-near r r a a 1062 i i (lit< tt) (product 1068 1068 1062 l l (lit≤ tt)) in
-    let y = mul-near (r ⊗ r) sixth (s .v) (0x15_5555_5555_5555 * 2 ^ 1019) 1062 (s .is) sixth-is (lit< tt) (product 1062 1072 1062 (s .top) (lit≤ tt) (lit≤ tt)) in
+    let s = mul-near r r a a 1062 i i (lit< tt) (product a a 1068 1068 1062 l l (lit≤ tt)) in
+    let y = mul-near (r ⊗ r) sixth (s .v) (0x15_5555_5555_5555 * 2 ^ 1019) 1062 (s .is) sixth-is (lit< tt) (product (s .v) (0x15_5555_5555_5555 * 2 ^ 1019) 1062 1072 1062 (s .top) (lit≤ tt) (lit≤ tt)) in
     let w = add-near (quarter ⊖ r ⊗ fifth) (r ⊗ r ⊗ sixth) (x .v) (y .v) 1073 (x .is) (y .is) (lit< tt) (sum-top (x .v) (y .v) (x .top) (y .top) (lit≤ tt)) in
     fall-near r third ((quarter ⊖ r ⊗ fifth) ⊕ r ⊗ r ⊗ sixth) a (0x15_5555_5555_5555 * 2 ^ 1020) (w .v) F i third-is (w .is) l (lit≤ tt) (lit≤ tt) (w .top)
 
@@ -194,19 +194,19 @@ rise-high U a s q k v e e' e'' E l hs hk hv t =
 pub ln-rise-near : (s : Float) (a : ℕ) → Is s a → a ≤ 2 ^ 1068 → Rise (lnRise s) a
 ln-rise-near s a i l =
     let U = 2 ^ 1074 in
-    let q = mul-near s s a a 1062 i i (lit< tt) (product 1068 1068 1062 l l (lit≤ tt)) in
-    let m = mul-near s fifth a (0x19_9999_9999_999a * 2 ^ 1019) 1068 i fifth-is (lit< tt) (product 1068 1072 1068 l (lit≤ tt) (lit≤ tt)) in
+    let q = mul-near s s a a 1062 i i (lit< tt) (product a a 1068 1068 1062 l l (lit≤ tt)) in
+    let m = mul-near s fifth a (0x19_9999_9999_999a * 2 ^ 1019) 1068 i fifth-is (lit< tt) (product a (0x19_9999_9999_999a * 2 ^ 1019) 1068 1072 1068 l (lit≤ tt) (lit≤ tt)) in
     let x = add-near quarter (s ⊗ fifth) (2 ^ 1072) (m .v) 1073 quarter-is (m .is) (lit< tt) (sum-top (2 ^ 1072) (m .v) (le-refl (2 ^ 1072)) (m .top) (lit≤ tt)) in
-    let y = mul-near (s ⊗ s) sixth (q .v) (0x15_5555_5555_5555 * 2 ^ 1019) 1062 (q .is) sixth-is (lit< tt) (product 1062 1072 1062 (q .top) (lit≤ tt) (lit≤ tt)) in
+    let y = mul-near (s ⊗ s) sixth (q .v) (0x15_5555_5555_5555 * 2 ^ 1019) 1062 (q .is) sixth-is (lit< tt) (product (q .v) (0x15_5555_5555_5555 * 2 ^ 1019) 1062 1072 1062 (q .top) (lit≤ tt) (lit≤ tt)) in
     let W = (quarter ⊕ s ⊗ fifth) ⊕ s ⊗ s ⊗ sixth in
     let w = add-near (quarter ⊕ s ⊗ fifth) (s ⊗ s ⊗ sixth) (x .v) (y .v) 1074 (x .is) (y .is) (lit< tt) (sum-top (x .v) (y .v) (x .top) (y .top) (lit≤ tt)) in
-    let m' = mul-near s third a (0x15_5555_5555_5555 * 2 ^ 1020) 1068 i third-is (lit< tt) (product 1068 1073 1068 l (lit≤ tt) (lit≤ tt)) in
+    let m' = mul-near s third a (0x15_5555_5555_5555 * 2 ^ 1020) 1068 i third-is (lit< tt) (product a (0x15_5555_5555_5555 * 2 ^ 1020) 1068 1073 1068 l (lit≤ tt) (lit≤ tt)) in
     let x' = add-near half (s ⊗ third) (2 ^ 1073) (m' .v) 1074 half-is (m' .is) (lit< tt) (sum-top (2 ^ 1073) (m' .v) (le-refl (2 ^ 1073)) (m' .top) (lit≤ tt)) in
-    let z = mul-near (s ⊗ s) W (q .v) (w .v) 1062 (q .is) (w .is) (lit< tt) (product 1062 1074 1062 (q .top) (w .top) (lit≤ tt)) in
+    let z = mul-near (s ⊗ s) W (q .v) (w .v) 1062 (q .is) (w .is) (lit< tt) (product (q .v) (w .v) 1062 1074 1062 (q .top) (w .top) (lit≤ tt)) in
     let Q = (half ⊕ s ⊗ third) ⊕ s ⊗ s ⊗ W in
     let t = add-near (half ⊕ s ⊗ third) (s ⊗ s ⊗ W) (x' .v) (z .v) 1075 (x' .is) (z .is) (lit< tt) (sum-top (x' .v) (z .v) (x' .top) (z .top) (lit≤ tt)) in
     let t-top : t .v ≤ U = two-sums (2 ^ 1073) (m' .v) (x' .v) (z .v) (t .v) (2 ^ 1022) (2 ^ 1023) (2 ^ 1068) (2 ^ 1062) U (x' .above) (t .above) (m' .top) (z .top) (lit≤ tt) in
-    let k = mul-near (s ⊗ s) Q (q .v) (t .v) 1062 (q .is) (t .is) (lit< tt) (product 1062 1074 1062 (q .top) t-top (lit≤ tt)) in
+    let k = mul-near (s ⊗ s) Q (q .v) (t .v) 1062 (q .is) (t .is) (lit< tt) (product (q .v) (t .v) 1062 1074 1062 (q .top) t-top (lit≤ tt)) in
     let r = add-near s (s ⊗ s ⊗ Q) a (k .v) 1069 i (k .is) (lit< tt) (sum-top a (k .v) l (k .top) (lit≤ tt)) in
     record {
       v = r .v;
