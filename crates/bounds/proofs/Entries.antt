@@ -8,7 +8,7 @@ use lib.ListN.{length}
 use lib.Ieee.{Float, nan, inf, fin, binary64, up, down, ofBits}
 use lib.Ieee.Fits.{and-l, and-r}
 use Rattle.rounding.specs.Units.{Is}
-use Rattle.rounding.proofs.Tables.{every, at}
+use Rattle.laws.proofs.Tables.{every, at}
 use Rattle.tables.specs.Tables.{entry, los, his, logs, mlogs}
 
 -- ---- an entry's units, with a test of them

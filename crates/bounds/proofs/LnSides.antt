@@ -17,7 +17,7 @@ use Rattle.rounding.proofs.Minus.{minus, never-minus-zero}
 use Rattle.rounding.proofs.Values.{plain-is, digits, one-number}
 use Rattle.math.specs.Steps.{zero, half, one, ln2, lit, smallest, scale, field, significand, lnHalf, lnDown, lnBelow, lnAbove, _⊕_, _⊖_, _⊗_}
 use Rattle.math.proofs.Halves.{significand-half, significand-one, scaled-least}
-use Rattle.math.proofs.Tests.{no}
+use Rattle.laws.proofs.Choices.{no}
 use Rattle.bounds.proofs.LnKernel.{ln-half-is, ln-half-top}
 use Rattle.bounds.specs.Bounds.{floor}
 

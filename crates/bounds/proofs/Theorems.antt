@@ -19,7 +19,8 @@ use Rattle.rounding.proofs.Values.{le-units}
 use Rattle.tables.specs.Tables.{entry, mlogs}
 use Rattle.math.specs.Steps.{zero, half as one-half, one, end, lit, grid128, expNeg, expSteps, lnRise, lnHalf, lnBelow, lnAbove, lnPositive, lnSteps, ln1pUnit, ln1pSteps, _⊖_, _⊘_}
 use Rattle.math.proofs.Places.{one-is, exp-digits, exp-units}
-use Rattle.math.proofs.Tests.{yes, no, neg-above, neg-under, from-half}
+use Rattle.laws.proofs.Choices.{yes, no, never}
+use Rattle.math.proofs.Tests.{neg-above, neg-under, from-half}
 use Rattle.bounds.specs.Fraction.{Fraction, size, whole, half, Within, _⊞_, _⊠_, _≲_}
 use Rattle.bounds.specs.Bounds.{ExpNear, LnNear, Ln1pNear, floor}
 use Rattle.bounds.proofs.Cases.{below-or-zero, above-or-zero, zero-size, zero-not-below, zero-not-above, not-above, half-above, half-not-under, top-sound, bottom-sound, nan-sound, neg-one, one-under-end, under-neg, neg-size}
@@ -67,13 +68,9 @@ step-far : (x : Float) → T (lt x zero) → lt (neg end) x ≡ false → expSte
 unfolding expSteps
 step-far x h k = simp (is-true (lt x zero) h, k)
 
-bool : (b : Bool) → (T b → ⊥) → b ≡ false
-bool true h = absurd (h tt)
-bool false h = refl
-
 step-zero : (x : Float) → T (eq x zero) → expSteps x ≡ one
 unfolding expSteps
-step-zero x h = simp (bool (lt x zero) (zero-not-below x h), bool (lt zero x) (zero-not-above x h), is-true (eq x zero) h)
+step-zero x h = simp (never (lt x zero) (zero-not-below x h), never (lt zero x) (zero-not-above x h), is-true (eq x zero) h)
 
 zero-is : Is zero 0
 unfolding ofBits
@@ -143,7 +140,7 @@ ln-nan = refl
 
 pub ln-below-zero : (x : Float) → T (lt x zero) → lnSteps x ≡ nan
 unfolding lnSteps
-ln-below-zero x h = simp (bool (lt zero x) (not-above x h), bool (eq x zero) (λ (e : T (eq x zero)). zero-not-below x e h))
+ln-below-zero x h = simp (never (lt zero x) (not-above x h), never (eq x zero) (λ (e : T (eq x zero)). zero-not-below x e h))
 
 step-positive : (x : Float) → T (lt zero x) → lnSteps x ≡ lnPositive x
 unfolding lnSteps
@@ -194,7 +191,7 @@ ln-range x F a u = go (lt x one-half) refl
     go false e = subst Side (sym (step-upper x a e u)) (half-side x F (from-half x a (no e)) u)
 
 pub ln-near : (x : Float) → T (fits binary64 x) → T (le one-half x) → T (le x one) → LnNear x (lnSteps x)
-ln-near x F a u = subst (λ (r : Float). LnNear x r) (sym (step-upper x (half-above x a) (bool (lt x one-half) (half-not-under x a)) u)) (ln-half-near x F a u (zero ⊖ lnHalf x) (half-minus x F a u .size) (half-side x F a u))
+ln-near x F a u = subst (λ (r : Float). LnNear x r) (sym (step-upper x (half-above x a) (never (lt x one-half) (half-not-under x a)) u)) (ln-half-near x F a u (zero ⊖ lnHalf x) (half-minus x F a u .size) (half-side x F a u))
 
 -- ---- ln_1p: exact values, and near y from 0 to 1
 pub ln1p-zero : ln1pSteps (lit 0) ≡ lit 0
@@ -215,7 +212,7 @@ ln1p-step y h k = simp (is-true (lt zero y) h, is-true (le y one) k)
 
 ln1p-step-zero : (y : Float) → T (eq y zero) → ln1pSteps y ≡ zero
 unfolding ln1pSteps
-ln1p-step-zero y h = simp (bool (lt zero y) (zero-not-above y h), is-true (eq y zero) h)
+ln1p-step-zero y h = simp (never (lt zero y) (zero-not-above y h), is-true (eq y zero) h)
 
 ln1p-at-zero : (y : Float) → num y ≡ 0 → Ln1pNear y zero
 unfolding ofBits

@@ -2,7 +2,7 @@
 -- Assumes nothing.
 use Prim.Native.Nat.{ℕ, zero, suc, _+_, _*_, _/_, _%_, _^_, _≤_, _<_}
 use mathlib.Core.Path.{_≡_, refl, _∙_, sym, ap, subst}
-use mathlib.Core.Bool.{Bool, true, false}
+use mathlib.Core.Bool.{Bool, true, false, cond}
 use mathlib.Core.List.{List, [], _∷_, _++_, append-assoc, append-nil}
 use native.Mathlib.Nat.{pow-suc, mul-assoc, div-lt-iff-lt-mul}
 use native.Mathlib.Omega.{arith}
@@ -10,7 +10,7 @@ use lib.Dec.{lit<, leb}
 use lib.ListN.{length, take, drop, getD, length-drop}
 use lib.Seq.{sets, sets-eq, length-sets, take-at, drop-at, length-take-le, take-suc, take-all}
 use borrow.Author.Tests.{le-leb, leb-true}
-use Rattle.hex.specs.Digits.{pick, digitOf, valueOf, digitsOf, then, numeral}
+use Rattle.hex.specs.Digits.{digitOf, valueOf, digitsOf, then, numeral}
 use Rattle.hex.specs.Frames.{readAt, writeAt}
 use Rattle.hex.specs.declared.Number.the-variants.{Value, Bad}
 use Rattle.hex.specs.declared.Nibble.{Nibble}
@@ -99,12 +99,12 @@ pub one-spelling : (text : List ℕ) (at n x : ℕ) → readAt text at n ≡ Val
 unfolding readAt
 one-spelling text at n x e = few (leb n 16) e
   where
-    inside : (b : Bool) → leb (at + n) (length text) ≡ b → pick b (numeral (take n (drop at text)) 0) Bad ≡ Value x → take n (drop at text) ≡ digitsOf n x
+    inside : (b : Bool) → leb (at + n) (length text) ≡ b → cond b (numeral (take n (drop at text)) 0) Bad ≡ Value x → take n (drop at text) ≡ digitsOf n x
     inside true t p =
         let h : at + n ≤ length text = leb-true (at + n) (length text) t in
         spelt n (take n (drop at text)) x (length-take-le n (drop at text) (simp length-drop (omega arith))) p
     inside false t p = let z : _≡_ {A = ℕ} 0 1 = cc in absurd (omega arith)
 
-    few : (b : Bool) → pick b (pick (leb (at + n) (length text)) (numeral (take n (drop at text)) 0) Bad) Bad ≡ Value x → take n (drop at text) ≡ digitsOf n x
+    few : (b : Bool) → cond b (cond (leb (at + n) (length text)) (numeral (take n (drop at text)) 0) Bad) Bad ≡ Value x → take n (drop at text) ≡ digitsOf n x
     few true p = inside (leb (at + n) (length text)) refl p
     few false p = let z : _≡_ {A = ℕ} 0 1 = cc in absurd (omega arith)

@@ -2,18 +2,14 @@
 -- Assumes nothing.
 use Prim.Native.Nat.{ℕ, _+_, _-_, _≤_, _<_}
 use mathlib.Core.Path.{_≡_, refl, _∙_, sym, ap, subst}
-use mathlib.Core.Bool.{Bool, true, false}
+use mathlib.Core.Bool.{Bool, true, false, cond}
 use native.Mathlib.Omega.{arith}
 use lib.Dec.{leb, ltb}
 use borrow.Author.Tests.{ltb-false, leb-true, ltb-true, lt-ltb, le-ltb, le-leb, lt-leb}
-use Rattle.hex.specs.Digits.{pick, digitOf, valueOf}
+use Rattle.laws.proofs.Choices.{cond-cases}
+use Rattle.hex.specs.Digits.{digitOf, valueOf}
 use Rattle.hex.specs.declared.Nibble.{Nibble}
 use Rattle.hex.specs.declared.Nibble.the-variants.{Value as Digit, Bad as NoDigit}
-
--- what holds of both choices, each where its test says so, holds of the choice
-pick-cases {ℓ κ} : {A : Type ℓ} (P : A → Type κ) (b : Bool) (x y : A) → (b ≡ true → P x) → (b ≡ false → P y) → P (pick b x y)
-pick-cases P true x y f g = f refl
-pick-cases P false x y f g = g refl
 
 -- a number below 16 has the one digit
 abbrev Made : ℕ → Nibble → Type 0
@@ -21,18 +17,18 @@ Made b (Digit d) = (d < 16) × (b ≡ digitOf d)
 Made b NoDigit = Unit {0}
 
 low : (b : ℕ) → 48 ≤ b → b ≤ 57 → Made b (Digit (b - 48))
-low b g h = (omega arith, sym (ap (λ (t : Bool). pick t (48 + (b - 48)) (87 + (b - 48))) (lt-ltb (b - 48) 10 (omega arith)) ∙ omega arith))
+low b g h = (omega arith, sym (ap (λ (t : Bool). cond t (48 + (b - 48)) (87 + (b - 48))) (lt-ltb (b - 48) 10 (omega arith)) ∙ omega arith))
 
 high : (b : ℕ) → 97 ≤ b → b ≤ 102 → Made b (Digit (b - 87))
-high b g h = (omega arith, sym (ap (λ (t : Bool). pick t (48 + (b - 87)) (87 + (b - 87))) (le-ltb (b - 87) 10 (omega arith)) ∙ omega arith))
+high b g h = (omega arith, sym (ap (λ (t : Bool). cond t (48 + (b - 87)) (87 + (b - 87))) (le-ltb (b - 87) 10 (omega arith)) ∙ omega arith))
 
 made : (b : ℕ) → Made b (valueOf b)
 unfolding valueOf
 made b =
-    pick-cases (Made b) (ltb b 48) _ _ (λ _. tt)
-    (λ s. pick-cases (Made b) (leb b 57) _ _ (λ t. low b (ltb-false b 48 s) (leb-true b 57 t))
-    (λ _. pick-cases (Made b) (ltb b 97) _ _ (λ _. tt)
-    (λ u. pick-cases (Made b) (leb b 102) _ _ (λ t. high b (ltb-false b 97 u) (leb-true b 102 t)) (λ _. tt))))
+    cond-cases (Made b) (ltb b 48) _ _ (λ _. tt)
+    (λ s. cond-cases (Made b) (leb b 57) _ _ (λ t. low b (ltb-false b 48 s) (leb-true b 57 t))
+    (λ _. cond-cases (Made b) (ltb b 97) _ _ (λ _. tt)
+    (λ u. cond-cases (Made b) (leb b 102) _ _ (λ t. high b (ltb-false b 97 u) (leb-true b 102 t)) (λ _. tt))))
 
 pub digit-below : (b : ℕ) {d : ℕ} → valueOf b ≡ Digit d → d < 16
 digit-below b e = subst (Made b) e (made b) .0
@@ -72,7 +68,7 @@ module _ (b : ℕ) where
 -- a digit stands for the number that made it
 pub value-digit : (v : ℕ) → v < 16 → valueOf (digitOf v) ≡ Digit v
 value-digit v h =
-    pick-cases (λ (b : ℕ). valueOf b ≡ Digit v) (ltb v 10) (48 + v) (87 + v) (λ t. small (ltb-true v 10 t)) (λ t. large (ltb-false v 10 t))
+    cond-cases (λ (b : ℕ). valueOf b ≡ Digit v) (ltb v 10) (48 + v) (87 + v) (λ t. small (ltb-true v 10 t)) (λ t. large (ltb-false v 10 t))
   where
     small : v < 10 → valueOf (48 + v) ≡ Digit v
     small l = sym (from-0 (48 + v) (omega arith) (omega arith)) ∙ ap (λ (n : ℕ). Digit n) (omega arith)

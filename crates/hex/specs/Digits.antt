@@ -1,7 +1,7 @@
 -- Digits and numbers: 0 to 9 and a to f, in ASCII.
 -- Assumes nothing.
 use Prim.Native.Nat.{ℕ, zero, suc, _+_, _-_, _*_, _/_, _%_}
-use mathlib.Core.Bool.{Bool, true, false}
+use mathlib.Core.Bool.{cond}
 use mathlib.Core.List.{List, [], _∷_, _++_}
 use lib.Dec.{leb, ltb}
 use Rattle.hex.specs.declared.Nibble.{Nibble}
@@ -9,18 +9,14 @@ use Rattle.hex.specs.declared.Nibble.the-variants.{Value as Digit, Bad a
 use Rattle.hex.specs.declared.Number.{Number}
 use Rattle.hex.specs.declared.Number.the-variants.{Value, Bad}
 
-abbrev pub pick {ℓ} : {A : Type ℓ} → Bool → A → A → A
-pick true a b = a
-pick false a b = b
-
 -- the digit of a number below 16
 abbrev pub digitOf : ℕ → ℕ
-digitOf v = pick (ltb v 10) (48 + v) (87 + v)
+digitOf v = cond (ltb v 10) (48 + v) (87 + v)
 
 -- the number of a digit: 30 to 39, and 61 to 66
 unfoldable pub valueOf : ℕ → Nibble
 valueOf b =
-    pick (ltb b 48) NoDigit (pick (leb b 57) (Digit (b - 48)) (pick (ltb b 97) NoDigit (pick (leb b 102) (Digit (b - 87)) NoDigit)))
+    cond (ltb b 48) NoDigit (cond (leb b 57) (Digit (b - 48)) (cond (ltb b 97) NoDigit (cond (leb b 102) (Digit (b - 87)) NoDigit)))
 
 -- the n low digits of a number, most significant first
 unfoldable pub digitsOf : ℕ → ℕ → List ℕ

@@ -11,12 +11,6 @@ use lib.Ieee.Fits.{and-i, eq→eqb, down-pos}
 use Rattle.rounding.proofs.Values.{lt-or-ge, or-left, or-right}
 use Rattle.math.specs.Steps.{zero, half, one, end, _⊘_}
 
-pub yes : {b : Bool} → b ≡ true → T b
-yes e = subst T (sym e) tt
-
-pub no : {b : Bool} → b ≡ false → T b → ⊥
-no e t = subst T e t
-
 -- ---- x below zero and above -746, by -x
 pub neg-above : (x : Float) → T (lt x zero) → T (lt zero (neg x))
 unfolding lt neg ofBits

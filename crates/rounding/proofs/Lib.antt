@@ -7,4 +7,3 @@ pub mod Casts
 pub mod Placed
 pub mod Fields
 pub mod Minus
-pub mod Tables

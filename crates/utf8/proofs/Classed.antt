@@ -3,7 +3,7 @@
 use Prim.Native.Nat.{ℕ, zero, suc, _+_, _-_, _<_, _≤_}
 use mathlib.Core.Path.{_≡_, refl, _∙_, sym, ap, subst}
 use mathlib.Core.Logic.{_⊎_, inl, inr}
-use mathlib.Core.Bool.{Bool, true, false}
+use mathlib.Core.Bool.{Bool, true, _&&_}
 use mathlib.Core.List.{List, [], _∷_}
 use lib.Dec.{T, eqb, eqb→eq, ltb}
 use lib.ListN.{length, getD}
@@ -13,12 +13,13 @@ use lib.Seq.{getD-drop}
 use native.Mathlib.Nat.{add-zero, eq-or-lt-of-le}
 use lib.ListN.{drop}
 use Rattle.utf8.specs.Grammar.{Range}
-use Rattle.utf8.proofs.Tests.{pick-cases, in-range, range}
-use Rattle.utf8.specs.Encode.{pick}
+use Rattle.laws.proofs.Choices.{cond-cases}
+use Rattle.utf8.proofs.Tests.{in-range, range}
 use Rattle.utf8.specs.Decode.{within, classOf, classIn, Right, byClass, decoded, decodedBy}
 use Rattle.utf8.specs.declared.Decoded.{Decoded}
 use Rattle.utf8.specs.declared.Decoded.the-variants.{Char}
-use Rattle.utf8.proofs.Entries.{every, at, left, right}
+use lib.Ieee.Fits.{and-l, and-r}
+use Rattle.laws.proofs.Tables.{every, at}
 
 -- the test of one entry
 unfoldable pub is-class : ℕ → ℕ → Bool
@@ -45,7 +46,7 @@ by-right : {table : List ℕ} → Right table → (s : List ℕ) → getD s 0 0 
 unfolding decodedBy decoded byClass
 by-right r [] h = refl
 by-right {table} r (a ∷ s) h =
-    pick-cases (λ (d : Decoded). d ≡ byClass (classOf a) a s) (ltb a 0x80) (Char a 1) (byClass (classIn table a) a s)
+    cond-cases (λ (d : Decoded). d ≡ byClass (classOf a) a s) (ltb a 0x80) (Char a 1) (byClass (classIn table a) a s)
     (λ t. sym (ap (λ (k : ℕ). byClass k a s) (ascii-class a (ltb-true a 0x80 t))))
     (λ t. ap (λ (k : ℕ). byClass k a s) (r .entry a h))
 
@@ -68,29 +69,29 @@ pub data Classed (a : ℕ) : ℕ → Type 0 where
 pub classed : (a : ℕ) → Classed a (classOf a)
 unfolding classOf
 classed a =
-    pick-cases (Classed a) (within 0x00 0x7F a) _ _ (λ t. one (range t))
-    (λ _. pick-cases (Classed a) (within 0xC2 0xDF a) _ _ (λ t. two (range t))
-    (λ _. pick-cases (Classed a) (eqb a 0xE0) _ _ (λ t. three-E0 (eqb-true a 0xE0 t))
-    (λ _. pick-cases (Classed a) (within 0xE1 0xEC a) _ _ (λ t. three-E1 (range t))
-    (λ _. pick-cases (Classed a) (eqb a 0xED) _ _ (λ t. three-ED (eqb-true a 0xED t))
-    (λ _. pick-cases (Classed a) (within 0xEE 0xEF a) _ _ (λ t. three-EE (range t))
-    (λ _. pick-cases (Classed a) (eqb a 0xF0) _ _ (λ t. four-F0 (eqb-true a 0xF0 t))
-    (λ _. pick-cases (Classed a) (within 0xF1 0xF3 a) _ _ (λ t. four-F1 (range t))
-    (λ _. pick-cases (Classed a) (eqb a 0xF4) _ _ (λ t. four-F4 (eqb-true a 0xF4 t)) (λ _. none)))))))))
+    cond-cases (Classed a) (within 0x00 0x7F a) _ _ (λ t. one (range t))
+    (λ _. cond-cases (Classed a) (within 0xC2 0xDF a) _ _ (λ t. two (range t))
+    (λ _. cond-cases (Classed a) (eqb a 0xE0) _ _ (λ t. three-E0 (eqb-true a 0xE0 t))
+    (λ _. cond-cases (Classed a) (within 0xE1 0xEC a) _ _ (λ t. three-E1 (range t))
+    (λ _. cond-cases (Classed a) (eqb a 0xED) _ _ (λ t. three-ED (eqb-true a 0xED t))
+    (λ _. cond-cases (Classed a) (within 0xEE 0xEF a) _ _ (λ t. three-EE (range t))
+    (λ _. cond-cases (Classed a) (eqb a 0xF0) _ _ (λ t. four-F0 (eqb-true a 0xF0 t))
+    (λ _. cond-cases (Classed a) (within 0xF1 0xF3 a) _ _ (λ t. four-F1 (range t))
+    (λ _. cond-cases (Classed a) (eqb a 0xF4) _ _ (λ t. four-F4 (eqb-true a 0xF4 t)) (λ _. none)))))))))
 
 -- The other way round: the n bytes from `low` on all have the class k, if a test computed at each of them says so.
 unfoldable pub all-class : ℕ → ℕ → ℕ → Bool
 unfolding classOf
 all-class k low zero = true
-all-class k low (suc n) = pick (eqb (classOf low) k) (all-class k (suc low) n) false
+all-class k low (suc n) = eqb (classOf low) k && all-class k (suc low) n
 
 same-class : (k low n : ℕ) → T (all-class k low n) → (a : ℕ) → low ≤ a → a < low + n → classOf a ≡ k
 unfolding all-class
 same-class k low zero t a l h = absurd (omega arith)
-same-class k low (suc n) t a l h = go (eq-or-lt-of-le l) (same-class k (suc low) n (right (eqb (classOf low) k) (all-class k (suc low) n) t) a)
+same-class k low (suc n) t a l h = go (eq-or-lt-of-le l) (same-class k (suc low) n (and-r (eqb (classOf low) k) (all-class k (suc low) n) t) a)
   where
     go : (low ≡ a) ⊎ (low < a) → (suc low ≤ a → a < suc low + n → classOf a ≡ k) → classOf a ≡ k
-    go (inl e) f = ap classOf (sym e) ∙ eqb→eq (classOf low) k (left (eqb (classOf low) k) (all-class k (suc low) n) t)
+    go (inl e) f = ap classOf (sym e) ∙ eqb→eq (classOf low) k (and-l (eqb (classOf low) k) (all-class k (suc low) n) t)
     go (inr m) f = f m (omega arith)
 
 pub range-class : (k : ℕ) {low high a : ℕ} → T (all-class k low (suc high - low)) → Range low high a → classOf a ≡ k

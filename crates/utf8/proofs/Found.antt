@@ -1,15 +1,16 @@
 -- The function `decoded` is the grammar of RFC 3629: what it finds is a character of the grammar, and it finds each.
 -- Assumes nothing.
+use mathlib.Core.Bool.{cond}
 use Prim.Native.Nat.{ℕ, _%_}
 use mathlib.Core.Path.{_≡_, refl, _∙_, ap}
 use mathlib.Core.List.{List, [], _∷_, _++_}
 use lib.ListN.{length}
 use Rattle.utf8.specs.Grammar.{Range, Tail, code2, code3, code4, UTF8-char, utf8-1, utf8-2, utf8-3-E0, utf8-3-E1, utf8-3-ED, utf8-3-EE, utf8-4-F0, utf8-4-F1, utf8-4-F4}
-use Rattle.utf8.specs.Encode.{pick}
 use Rattle.utf8.specs.Decode.{within, classOf, decodedAfter, byClass, decoded}
 use Rattle.utf8.specs.declared.Decoded.{Decoded}
 use Rattle.utf8.specs.declared.Decoded.the-variants.{Char, Bad}
-use Rattle.utf8.proofs.Tests.{pick-cases, in-range, range}
+use Rattle.laws.proofs.Choices.{cond-cases}
+use Rattle.utf8.proofs.Tests.{in-range, range}
 use Rattle.utf8.proofs.Classed.{Classed, none, one, two, three-E0, three-E1, three-ED, three-EE, four-F0, four-F1, four-F4, classed, all-class, range-class}
 
 -- an answer about the text s: a character of the grammar stands at its front, so wide; of `Bad` nothing is said
@@ -18,8 +19,8 @@ Found s (Char c w) = (bytes : List ℕ) × (rest : List ℕ) × UTF8-char bytes 
 Found s Bad = Unit {0}
 
 -- a test that fails leaves nothing to be shown
-tested : (s : List ℕ) (low high x : ℕ) (d : Decoded) → (Range low high x → Found s d) → Found s (pick (within low high x) d Bad)
-tested s low high x d f = pick-cases (Found s) (within low high x) d Bad (λ t. f (range t)) (λ _. tt)
+tested : (s : List ℕ) (low high x : ℕ) (d : Decoded) → (Range low high x → Found s d) → Found s (cond (within low high x) d Bad)
+tested s low high x d f = cond-cases (Found s) (within low high x) d Bad (λ t. f (range t)) (λ _. tt)
 
 found2 : (a : ℕ) → Range 0xC2 0xDF a → (s : List ℕ) → Found (a ∷ s) (decodedAfter (a % 32) 0x80 0xBF 0 s)
 unfolding decodedAfter

@@ -1,6 +1,5 @@
 -- Laws over plain numbers and lists, which the proofs of the functions and the theorems cite.
 pub mod Tests
-pub mod Entries
 pub mod Position
 pub mod Classed
 pub mod Found

@@ -3,7 +3,7 @@
 -- Assumes nothing.
 use Prim.Native.Nat.{ℕ, suc, _+_, _-_, _*_, _%_, _^_, _≤_, _<_}
 use mathlib.Core.Path.{_≡_, _∙_, sym, ap, subst}
-use mathlib.Core.Bool.{true, false}
+use mathlib.Core.Bool.{true, false, cond}
 use mathlib.Core.List.{List, _∷_}
 use native.Mathlib.Nat.{pow-suc, pow-le-pow-right, sub-self}
 use native.Mathlib.Numerals.{add-one}
@@ -12,7 +12,6 @@ use lib.Dec.{lit<}
 use lib.ListN.{length, drop, getD, drop-of-length-le}
 use lib.Seq.{drop-cons}
 use borrow.Author.Tests.{lt-ltb, le-ltb, ne-eqb}
-use Rattle.utf8.specs.Encode.{pick}
 use Rattle.utf8.specs.Decode.{within, classOf, classIn, decodedTails, decodedAfter, byClass, decoded, decodedBy}
 use Rattle.utf8.specs.declared.Decoded.{Decoded}
 use Rattle.utf8.specs.declared.Decoded.the-variants.{Char, Bad}
@@ -72,7 +71,7 @@ module _ {text : List ℕ} {at lead low high n code next left : ℕ} (f : Follow
 
     module _ (l : next < length text) where
       tail-left : decodedAfter lead low high n (drop (at + 1) text)
-          ≡ pick (within 0x80 0xBF (getD text next 0)) (decodedTails (left - 1) (code * 64 + getD text next 0 % 64) (n + 2) (drop (next + 1) text)) Bad
+          ≡ cond (within 0x80 0xBF (getD text next 0)) (decodedTails (left - 1) (code * 64 + getD text next 0 % 64) (n + 2) (drop (next + 1) text)) Bad
       unfolding decodedTails
       tail-left =
           let z : left ≡ suc (left - 1) = omega arith in

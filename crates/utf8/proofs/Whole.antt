@@ -9,9 +9,9 @@ use lib.ListN.{length, drop, length-append, length-drop, drop-of-length-le}
 use lib.Seq.{drop-at, drop-drop}
 use borrow.Author.Tests.{eq-eqb, ne-eqb, eqb-true}
 use lib.Dec.{eqb}
-use mathlib.Core.Bool.{Bool, true, false}
+use mathlib.Core.Bool.{Bool, true, false, cond}
 use Rattle.utf8.specs.Grammar.{UTF8-char, utf8-1, utf8-2, utf8-3-E0, utf8-3-E1, utf8-3-ED, utf8-3-EE, utf8-4-F0, utf8-4-F1, utf8-4-F4}
-use Rattle.utf8.specs.Encode.{pick, Scalar, encode, spelling}
+use Rattle.utf8.specs.Encode.{Scalar, encode, spelling}
 use Rattle.utf8.specs.Decode.{decoded}
 use Rattle.utf8.specs.Chars.{after, charsF, charsOf, validOf, measured}
 use Rattle.utf8.specs.declared.Decoded.{Decoded}
@@ -157,7 +157,7 @@ pub valid-whole : (text : List ℕ) {n : ℕ} → Chars n ≡ measured text → 
 unfolding measured
 valid-whole text {n} p = go (eqb (validOf text) (length text)) refl p
   where
-    go : (b : Bool) → eqb (validOf text) (length text) ≡ b → Chars n ≡ pick b (Chars (length (charsOf text))) (BadAt (validOf text)) → length text ≡ validOf text
+    go : (b : Bool) → eqb (validOf text) (length text) ≡ b → Chars n ≡ cond b (Chars (length (charsOf text))) (BadAt (validOf text)) → length text ≡ validOf text
     go true e q = sym (eqb-true (validOf text) (length text) e)
     go false e q = let z : _≡_ {A = ℕ} 0 1 = cc in absurd (omega arith)
 
@@ -165,6 +165,6 @@ pub valid-part : (text : List ℕ) {k : ℕ} → BadAt k ≡ measured text → k
 unfolding measured
 valid-part text {k} p = go (eqb (validOf text) (length text)) p
   where
-    go : (b : Bool) → BadAt k ≡ pick b (Chars (length (charsOf text))) (BadAt (validOf text)) → k ≡ validOf text
+    go : (b : Bool) → BadAt k ≡ cond b (Chars (length (charsOf text))) (BadAt (validOf text)) → k ≡ validOf text
     go true q = let z : _≡_ {A = ℕ} 0 1 = cc in absurd (omega arith)
     go false q = cc

@@ -1,10 +1,11 @@
 -- A whole text: its characters, as far as they go, and what `measure` and `valid_up_to` answer.
 -- Assumes nothing.
+use mathlib.Core.Bool.{cond}
 use Prim.Native.Nat.{ℕ, zero, suc}
 use mathlib.Core.List.{List, [], _∷_}
 use lib.Dec.{eqb}
 use lib.ListN.{length, drop}
-use Rattle.utf8.specs.Encode.{pick, spelling}
+use Rattle.utf8.specs.Encode.{spelling}
 use Rattle.utf8.specs.Decode.{decoded}
 use Rattle.utf8.specs.declared.Decoded.{Decoded}
 use Rattle.utf8.specs.declared.Decoded.the-variants.{Char, Bad}
@@ -34,4 +35,4 @@ validOf s = length (spelling (charsOf s))
 
 -- the number of characters, if they are the whole text; else where the first octet stands that begins none
 unfoldable pub measured : List ℕ → Text
-measured s = pick (eqb (validOf s) (length s)) (Chars (length (charsOf s))) (BadAt (validOf s))
+measured s = cond (eqb (validOf s) (length s)) (Chars (length (charsOf s))) (BadAt (validOf s))

@@ -5,30 +5,29 @@
 -- Assumes nothing.
 use Prim.Native.Nat.{ℕ, zero, suc, _+_, _*_, _%_, _<_}
 use mathlib.Core.Path.{_≡_}
-use mathlib.Core.Bool.{Bool, false}
+use mathlib.Core.Bool.{Bool, cond, _&&_}
 use mathlib.Core.List.{List, [], _∷_}
 use lib.Dec.{leb, ltb, eqb}
 use lib.ListN.{length, getD}
-use Rattle.utf8.specs.Encode.{pick}
 use Rattle.utf8.specs.declared.Decoded.{Decoded}
 use Rattle.utf8.specs.declared.Decoded.the-variants.{Char, Bad}
 
 -- %xLOW-HIGH as a test
 abbrev pub within : ℕ → ℕ → ℕ → Bool
-within low high x = pick (leb low x) (leb x high) false
+within low high x = leb low x && leb x high
 
 -- the class of a first octet; 0: no character begins with it
 unfoldable pub classOf : ℕ → ℕ
 classOf a =
-    pick (within 0x00 0x7F a) 1
-    (pick (within 0xC2 0xDF a) 2
-    (pick (eqb a 0xE0) 3
-    (pick (within 0xE1 0xEC a) 4
-    (pick (eqb a 0xED) 5
-    (pick (within 0xEE 0xEF a) 4
-    (pick (eqb a 0xF0) 6
-    (pick (within 0xF1 0xF3 a) 7
-    (pick (eqb a 0xF4) 8 0))))))))
+    cond (within 0x00 0x7F a) 1
+    (cond (within 0xC2 0xDF a) 2
+    (cond (eqb a 0xE0) 3
+    (cond (within 0xE1 0xEC a) 4
+    (cond (eqb a 0xED) 5
+    (cond (within 0xEE 0xEF a) 4
+    (cond (eqb a 0xF0) 6
+    (cond (within 0xF1 0xF3 a) 7
+    (cond (eqb a 0xF4) 8 0))))))))
 
 -- the class that a table gives an octet
 unfoldable pub classIn : List ℕ → ℕ → ℕ
@@ -43,25 +42,25 @@ pub record Right (table : List ℕ) : Type 0 where
 unfoldable pub decodedTails : ℕ → ℕ → ℕ → List ℕ → Decoded
 decodedTails zero code w s = Char code w
 decodedTails (suc n) code w [] = Bad
-decodedTails (suc n) code w (b ∷ s) = pick (within 0x80 0xBF b) (decodedTails n (code * 64 + b % 64) w s) Bad
+decodedTails (suc n) code w (b ∷ s) = cond (within 0x80 0xBF b) (decodedTails n (code * 64 + b % 64) w s) Bad
 
 -- after a first octet whose free bits are `lead`: an octet from low to high, and n UTF8-tails
 unfoldable pub decodedAfter : ℕ → ℕ → ℕ → ℕ → List ℕ → Decoded
 unfolding decodedTails
 decodedAfter lead low high n [] = Bad
-decodedAfter lead low high n (b ∷ s) = pick (within low high b) (decodedTails n (lead * 64 + b % 64) (n + 2) s) Bad
+decodedAfter lead low high n (b ∷ s) = cond (within low high b) (decodedTails n (lead * 64 + b % 64) (n + 2) s) Bad
 
 -- the character whose first octet is a, of the class k
 unfoldable pub byClass : ℕ → ℕ → List ℕ → Decoded
 byClass k a s =
-    pick (eqb k 1) (Char a 1)
-    (pick (eqb k 2) (decodedAfter (a % 32) 0x80 0xBF 0 s)
-    (pick (eqb k 3) (decodedAfter (a % 16) 0xA0 0xBF 1 s)
-    (pick (eqb k 4) (decodedAfter (a % 16) 0x80 0xBF 1 s)
-    (pick (eqb k 5) (decodedAfter (a % 16) 0x80 0x9F 1 s)
-    (pick (eqb k 6) (decodedAfter (a % 8) 0x90 0xBF 2 s)
-    (pick (eqb k 7) (decodedAfter (a % 8) 0x80 0xBF 2 s)
-    (pick (eqb k 8) (decodedAfter (a % 8) 0x80 0x8F 2 s) Bad)))))))
+    cond (eqb k 1) (Char a 1)
+    (cond (eqb k 2) (decodedAfter (a % 32) 0x80 0xBF 0 s)
+    (cond (eqb k 3) (decodedAfter (a % 16) 0xA0 0xBF 1 s)
+    (cond (eqb k 4) (decodedAfter (a % 16) 0x80 0xBF 1 s)
+    (cond (eqb k 5) (decodedAfter (a % 16) 0x80 0x9F 1 s)
+    (cond (eqb k 6) (decodedAfter (a % 8) 0x90 0xBF 2 s)
+    (cond (eqb k 7) (decodedAfter (a % 8) 0x80 0xBF 2 s)
+    (cond (eqb k 8) (decodedAfter (a % 8) 0x80 0x8F 2 s) Bad)))))))
 
 -- the character at the front of a text
 unfoldable pub decoded : List ℕ → Decoded
@@ -71,4 +70,4 @@ decoded (a ∷ s) = byClass (classOf a) a s
 -- the same by a lent table of classes, of which an ASCII octet has no need
 unfoldable pub decodedBy : List ℕ → List ℕ → Decoded
 decodedBy table [] = Bad
-decodedBy table (a ∷ s) = pick (ltb a 0x80) (Char a 1) (byClass (classIn table a) a s)
+decodedBy table (a ∷ s) = cond (ltb a 0x80) (Char a 1) (byClass (classIn table a) a s)

@@ -2,7 +2,7 @@
 -- Assumes nothing.
 use Prim.Native.Nat.{ℕ, _+_, _/_, _%_, _≤_}
 use mathlib.Core.Path.{_≡_}
-use mathlib.Core.Bool.{Bool, true, false}
+use mathlib.Core.Bool.{cond}
 use mathlib.Core.List.{List, [], _∷_, _++_}
 use lib.Dec.{leb}
 
@@ -10,10 +10,6 @@ use lib.Dec.{leb}
 pub record Scalar (c : ℕ) : Type 0 where
   pub most : c ≤ 0x10FFFF
   pub no-surrogate : 0xD800 ≤ c → c ≤ 0xDFFF → ⊥
-
-abbrev pub pick {ℓ} : {A : Type ℓ} → Bool → A → A → A
-pick true a b = a
-pick false a b = b
 
 -- Section 3's table, by its first column:
 --
@@ -23,9 +19,9 @@ pick false a b = b
 --     10000-10FFFF    11110xxx 10xxxxxx 10xxxxxx 10xxxxxx
 unfoldable pub encode : ℕ → List ℕ
 encode c =
-    pick (leb c 0x7F) (c ∷ [])
-    (pick (leb c 0x7FF) ((0xC0 + c / 64) ∷ (0x80 + c % 64) ∷ [])
-    (pick (leb c 0xFFFF) ((0xE0 + c / 4096) ∷ (0x80 + c / 64 % 64) ∷ (0x80 + c % 64) ∷ [])
+    cond (leb c 0x7F) (c ∷ [])
+    (cond (leb c 0x7FF) ((0xC0 + c / 64) ∷ (0x80 + c % 64) ∷ [])
+    (cond (leb c 0xFFFF) ((0xE0 + c / 4096) ∷ (0x80 + c / 64 % 64) ∷ (0x80 + c % 64) ∷ [])
     ((0xF0 + c / 262144) ∷ (0x80 + c / 4096 % 64) ∷ (0x80 + c / 64 % 64) ∷ (0x80 + c % 64) ∷ [])))
 
 -- the encoding of c stands at the front of a text

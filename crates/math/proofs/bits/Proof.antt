@@ -5,7 +5,7 @@ use borrow.Author.Needs.{needs}
 use lib.Dec.{T}
 use lib.Ieee.{Float, nan, inf, fin, binary64, ne, eq, isNan, toBits}
 use lib.Ieee.Compare.{differs-from-itself}
-use Rattle.math.proofs.Tests.{yes, no}
+use Rattle.laws.proofs.Choices.{yes, no}
 use Rattle.math.proofs.bits.Statement.{statement}
 use Rattle.math.proofs.bits.Tie as tie
 

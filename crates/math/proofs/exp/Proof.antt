@@ -4,7 +4,8 @@ use mathlib.Core.Bool.{false}
 use borrow.Author.Needs.{needs}
 use lib.Ieee.{Float, nan, inf, binary64, neg, div, lt, ofBits}
 use Rattle.math.specs.Steps.{zero, one, end, expSteps, expNeg, _⊘_}
-use Rattle.math.proofs.Tests.{yes, neg-above, neg-under, over-zero, no-number}
+use Rattle.laws.proofs.Choices.{yes}
+use Rattle.math.proofs.Tests.{neg-above, neg-under, over-zero, no-number}
 use Rattle.math.proofs.exp.Statement.{statement}
 use Rattle.math.proofs.exp.Tie as tie
 

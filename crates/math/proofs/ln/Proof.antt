@@ -1,7 +1,8 @@
 -- `math::ln` meets its contract: its tests are the definition's. Assumes nothing.
 use borrow.Author.Needs.{needs}
 use Rattle.math.specs.Steps.{lnSteps}
-use Rattle.math.proofs.Tests.{yes, under-zero, no-number}
+use Rattle.laws.proofs.Choices.{yes}
+use Rattle.math.proofs.Tests.{under-zero, no-number}
 use Rattle.math.proofs.ln.Statement.{statement}
 use Rattle.math.proofs.ln.Tie as tie
 

@@ -1,7 +1,7 @@
 -- `math::ln_1p` meets its contract: its tests are the definition's. Assumes nothing.
 use borrow.Author.Needs.{needs}
 use Rattle.math.specs.Steps.{ln1pSteps}
-use Rattle.math.proofs.Tests.{yes}
+use Rattle.laws.proofs.Choices.{yes}
 use Rattle.math.proofs.ln_1p.Statement.{statement}
 use Rattle.math.proofs.ln_1p.Tie as tie
 

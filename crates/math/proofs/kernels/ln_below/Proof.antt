@@ -4,7 +4,7 @@ use native.Mathlib.Nat.{le-trans}
 use lib.Dec.{T, lit<, lit≤}
 use lib.Ieee.{Float, binary64, fits}
 use Rattle.math.specs.Steps.{zero, _⊖_}
-use Rattle.math.proofs.Tests.{no}
+use Rattle.laws.proofs.Choices.{no}
 use Rattle.math.proofs.Halves.{below-number, below-field, scaled-number, scaled-field}
 use Rattle.math.proofs.kernels.ln_below.Statement.{statement}
 use Rattle.math.proofs.kernels.ln_below.Tie as tie

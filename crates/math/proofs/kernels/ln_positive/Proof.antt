@@ -4,7 +4,8 @@ use mathlib.Core.Bool.{false}
 use borrow.Author.Needs.{needs}
 use lib.Ieee.{Float, lt}
 use Rattle.math.specs.Steps.{zero, _⊖_}
-use Rattle.math.proofs.Tests.{yes, no, from-half, above-one, over-zero}
+use Rattle.laws.proofs.Choices.{yes, no}
+use Rattle.math.proofs.Tests.{from-half, above-one, over-zero}
 use Rattle.math.proofs.kernels.ln_positive.Statement.{statement}
 use Rattle.math.proofs.kernels.ln_positive.Tie as tie
 

@@ -1,0 +1,3 @@
+pub mod Choices
+pub mod Tables
+pub mod Outcome
