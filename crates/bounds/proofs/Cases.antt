@@ -11,6 +11,7 @@ use lib.Ieee.{Float, nan, inf, fin, up, down, neg, lt, le, eq, ofBits}
 use lib.Ieee.Fits.{and-i, and-l, and-r, eq→eqb, down-pos}
 use lib.Ieee.Positive.{num}
 use Rattle.rounding.proofs.Values.{or-left, or-right, or-split}
+use Rattle.math.proofs.Tests.{plain-not-below}
 use Rattle.math.specs.Steps.{zero, half, one, end, lit}
 use Rattle.bounds.specs.Fraction.{size}
 
@@ -36,10 +37,9 @@ above-or-zero (fin false m e) h = elim (or-split (ltb (0 * 1 * down e) (m * up e
   | inr l ↦ inr (and-i (eqb (m * up e * 1) (0 * 1 * down e)) true (eq→eqb (sym (eqb→eq (0 * 1 * down e) (m * up e * 1) (and-l (eqb (0 * 1 * down e) (m * up e * 1)) true l)))) tt)
 ]
 
--- ---- equal to zero: not below it, not above it, finite, and of no size
-module _ where
-  nought : (a d : ℕ) → a * 1 ≡ 0 * 1 * d → a ≡ 0
-  nought a d e = omega arith
+-- ---- equal to zero: of no size, not below it and not above it
+nought : (a d : ℕ) → a * 1 ≡ 0 * 1 * d → a ≡ 0
+nought a d e = omega arith
 
 pub zero-size : (x : Float) → T (eq x zero) → num x ≡ 0
 unfolding eq ofBits
@@ -56,10 +56,7 @@ zero-not-below (fin true m e) h k = none (m * up e) (down e) (zero-size (fin tru
   where
     none : (a d : ℕ) → a ≡ 0 → 0 < a * 1 + 0 * 1 * d → ⊥
     none a d e h = omega arith
-zero-not-below (fin false m e) h k = none (m * up e * 1) (down e) (ltb→lt (m * up e * 1) (0 * 1 * down e) k)
-  where
-    none : (a d : ℕ) → a < 0 * 1 * d → ⊥
-    none a d h = omega arith
+zero-not-below (fin false m e) h k = plain-not-below m e k
 
 pub zero-not-above : (x : Float) → T (eq x zero) → T (lt zero x) → ⊥
 unfolding lt eq ofBits
@@ -78,10 +75,7 @@ not-above nan h k = h
 not-above (inf true) h k = k
 not-above (inf false) h k = h
 not-above (fin true m e) h k = k
-not-above (fin false m e) h k = none (m * up e * 1) (down e) (ltb→lt (m * up e * 1) (0 * 1 * down e) h)
-  where
-    none : (a d : ℕ) → a < 0 * 1 * d → ⊥
-    none a d h = omega arith
+not-above (fin false m e) h k = plain-not-below m e h
 
 half-sizes : (m : ℕ) (e : ℤ) → T (le half (fin false m e)) → 1 * 1 * down e ≤ m * up e * 2
 unfolding le lt eq ofBits
@@ -134,10 +128,7 @@ unfolding le lt eq neg ofBits
 neg-one nan h k = absurd h
 neg-one (inf true) h k = absurd h
 neg-one (inf false) h k = absurd k
-neg-one (fin false m e) h k = absurd (none (m * up e * 1) (down e) (ltb→lt (m * up e * 1) (0 * 1 * down e) k))
-  where
-    none : (a d : ℕ) → a < 0 * 1 * d → ⊥
-    none a d h = omega arith
+neg-one (fin false m e) h k = absurd (plain-not-below m e k)
 neg-one (fin true m e) h k =
     let A = m * up e * 1 in
     let B = 1 * 1 * down e in
@@ -176,10 +167,7 @@ under-neg nan h k = absurd h
 under-neg (inf true) h k = absurd k
 under-neg (inf false) h k = absurd h
 under-neg (fin true m e) h k = k
-under-neg (fin false m e) h k = absurd (none (m * up e * 1) (down e) (ltb→lt (m * up e * 1) (0 * 1 * down e) h))
-  where
-    none : (a d : ℕ) → a < 0 * 1 * d → ⊥
-    none a d h = omega arith
+under-neg (fin false m e) h k = absurd (plain-not-below m e h)
 
 -- ---- a float and its negation have one size
 pub neg-size : (x : Float) → size (neg x) ≡ size x

@@ -10,7 +10,7 @@ use lib.Ieee.Fits.{div-fits}
 use lib.Ieee.Positive.{num, den}
 use Rattle.rounding.specs.Units.{Is, Whole, Rounded}
 use Rattle.rounding.specs.Grid.{cut, index, rest}
-use Rattle.rounding.proofs.Near.{add-near, div-near}
+use Rattle.rounding.proofs.Near.{sum-top, add-near, div-near}
 use Rattle.rounding.proofs.Snap.{add-exact}
 use Rattle.rounding.proofs.Values.{cross, plain-is}
 use Rattle.tables.specs.Tables.{entry, logs}
@@ -63,9 +63,6 @@ comp-y U S e x y z le ly lx lyx h =
     let s4 : y * 2 * U ≤ (x * 2 + e) * U = mul-le-mul-right U lyx in
     omega (arith, s1, s2, s3, s4)
 
-both : (x y : ℕ) {X Y Z : ℕ} → x ≤ X → y ≤ Y → X + Y ≤ Z → x + y ≤ Z
-both x y h k l = omega arith
-
 -- ---- the kernel
 module _ (y : Float) (F : T (fits binary64 y)) (above : T (lt zero y)) (under : T (le y one)) where
   abbrev υ : ℕ
@@ -112,7 +109,7 @@ module _ (y : Float) (F : T (fits binary64 y)) (above : T (lt zero y)) (under : 
   L = log-entry j (ln1p-index y F above under)
 
   z : Whole (ln1pUnit y) (L .v + q .v) 1075
-  z = add-near (entry logs j) (lnFall (rest grid64 y ⊘ (one ⊕ cut grid64 y))) (L .v) (q .v) 1075 (L .is) (q .is) (lit< tt) (both (L .v) (q .v) (le-trans (L .top) (le-trans o υ-top)) (q .top) (lit≤ tt))
+  z = add-near (entry logs j) (lnFall (rest grid64 y ⊘ (one ⊕ cut grid64 y))) (L .v) (q .v) 1075 (L .is) (q .is) (lit< tt) (sum-top (L .v) (q .v) (le-trans (L .top) (le-trans o υ-top)) (q .top) (lit≤ tt))
 
   pub ln1p-unit-near : Ln1pNear y (ln1pUnit y)
   ln1p-unit-near =

@@ -9,7 +9,7 @@ use lib.Ieee.{Float, binary64, fits, le}
 use lib.Ieee.Positive.{num, den}
 use Rattle.rounding.specs.Units.{Is, Sized, Whole, Rounded}
 use Rattle.rounding.specs.Grid.{cut, index, rest}
-use Rattle.rounding.proofs.Near.{add-near, div-near}
+use Rattle.rounding.proofs.Near.{sum-top, add-near, div-near}
 use Rattle.rounding.proofs.Snap.{sub-exact}
 use Rattle.rounding.proofs.Placed.{taken}
 use Rattle.rounding.proofs.Values.{cross}
@@ -76,9 +76,6 @@ sum-low U x t a d e e' ε lx la h h' l = omega arith
 sum-high : (U x t a d e e' ε : ℕ) → x ≤ U → a ≤ t → a ≤ U → t * 2 ≤ (U - x) * 2 + e → d * 2 ≤ (t - a) * 2 + e' → e + e' ≤ ε * 2 → x + d ≤ U - a + ε
 sum-high U x t a d e e' ε lx la lu h h' l = omega arith
 
-both : (x y : ℕ) {X Y Z : ℕ} → x ≤ X → y ≤ Y → X + Y ≤ Z → x + y ≤ Z
-both x y h k l = omega arith
-
 -- ---- the kernel
 module _ (x : Float) (F : T (fits binary64 x)) (above : T (le half x)) (under : T (le x one)) where
   abbrev ξ : ℕ
@@ -135,7 +132,7 @@ module _ (x : Float) (F : T (fits binary64 x)) (above : T (le half x)) (under : 
   L = minus-log-entry j (half-index x F above under)
 
   z : Whole (lnHalf x) (L .v + q .v) 1075
-  z = add-near (entry mlogs j) (lnRise (rest grid128 v ⊘ (one ⊖ cut grid128 v))) (L .v) (q .v) 1075 (L .is) (q .is) (lit< tt) (both (L .v) (q .v) (L .top) (q .top) (lit≤ tt))
+  z = add-near (entry mlogs j) (lnRise (rest grid128 v ⊘ (one ⊖ cut grid128 v))) (L .v) (q .v) 1075 (L .is) (q .is) (lit< tt) (sum-top (L .v) (q .v) (L .top) (q .top) (lit≤ tt))
 
   -- at most 2
   pub ln-half-is : Sized (lnHalf x) 1075

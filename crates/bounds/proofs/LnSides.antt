@@ -11,11 +11,12 @@ use lib.Ieee.{Float, inf, fin, binary64, fits, neg, lt, le, eq, ofBits, toBits, 
 use lib.Ieee.Bits.{ofBits-fits, toBits-lt}
 use lib.Ieee.Fits.{add-fits}
 use Rattle.rounding.specs.Units.{Is, Sized, Times, Minus}
-use Rattle.rounding.proofs.Near.{mul-near, add-near}
+use Rattle.rounding.proofs.Near.{sum-top, mul-near, add-near}
 use Rattle.rounding.proofs.Casts.{int-is}
 use Rattle.rounding.proofs.Minus.{minus, never-minus-zero}
 use Rattle.rounding.proofs.Values.{plain-is, digits, one-number}
 use Rattle.math.specs.Steps.{zero, half, one, ln2, lit, smallest, scale, field, significand, lnHalf, lnDown, lnBelow, lnAbove, _⊕_, _⊖_, _⊗_}
+use Rattle.math.proofs.Places.{zero-is}
 use Rattle.math.proofs.Halves.{significand-half, significand-one, scaled-least}
 use Rattle.laws.proofs.Choices.{no}
 use Rattle.bounds.proofs.LnKernel.{ln-half-is, ln-half-top}
@@ -24,10 +25,6 @@ use Rattle.bounds.specs.Bounds.{floor}
 ln2-is : Is ln2 (0x16_2e42_fefa_39ef * 2 ^ 1021)
 unfolding ofBits
 ln2-is = (refl, refl)
-
-zero-is : Is zero 0
-unfolding ofBits
-zero-is = (refl, refl)
 
 -- ---- the parts
 significand-fits : (b : ℕ) → T (fits binary64 (significand b))
@@ -42,9 +39,6 @@ whole k l = mul-near (ofInt binary64 (pos k)) ln2 (k * 2 ^ 1074) (0x16_2e42_fefa
   where
     few : (k : ℕ) → k ≤ 4096 → k < 9007199254740992
     few k h = omega arith
-
-sum-top : (x y : ℕ) {X Y Z : ℕ} → x ≤ X → y ≤ Y → X + Y ≤ Z → x + y ≤ Z
-sum-top x y h k l = omega arith
 
 -- at most 1,073 times ln 2, and a little above 1: at most 745 in all
 pub record Down (z : Float) : Type 0 where

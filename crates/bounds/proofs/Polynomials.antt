@@ -8,7 +8,7 @@ use lib.Pow.{pow-pos}
 use lib.Ieee.{Float, binary64, fits, ofBits}
 use lib.Ieee.Fits.{mul-fits}
 use Rattle.rounding.specs.Units.{Is, Digits, Times, Whole}
-use Rattle.rounding.proofs.Near.{mul-near, add-near, sub-near, mul-no-more}
+use Rattle.rounding.proofs.Near.{sum-top, mul-near, add-near, sub-near, mul-no-more}
 use Rattle.rounding.proofs.Values.{plain-is, digits, one-number}
 use Rattle.math.specs.Steps.{half, one, third, quarter, fifth, sixth, part24, part120, fall, expPoly, lnFall, lnRise, _⊕_, _⊖_, _⊗_}
 use Rattle.math.proofs.Places.{half-is, one-is}
@@ -93,9 +93,6 @@ less a k e v h = omega arith
 
 under : (a k n : ℕ) → a ≤ n → a - k ≤ n
 under a k n h = omega arith
-
-sum-top : (x y : ℕ) {X Y Z : ℕ} → x ≤ X → y ≤ Y → X + Y ≤ Z → x + y ≤ Z
-sum-top x y h k l = omega arith
 
 pub fall-near : (f c w : Float) (a b ω : ℕ) → T (fits binary64 f) → Is f a → Is c b → Is w ω → a ≤ 2 ^ 1068 → 2 ^ 1071 ≤ b → b ≤ 2 ^ 1073 → ω ≤ 2 ^ 1073 → Fall (fall f c w) a
 fall-near f c w a b ω F if ic iw la gb lb lw =

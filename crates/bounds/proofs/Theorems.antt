@@ -18,7 +18,7 @@ use Rattle.rounding.specs.Grid.{cut, index, rest}
 use Rattle.rounding.proofs.Values.{le-units}
 use Rattle.tables.specs.Tables.{entry, mlogs}
 use Rattle.math.specs.Steps.{zero, half as one-half, one, end, lit, grid128, expNeg, expSteps, lnRise, lnHalf, lnBelow, lnAbove, lnPositive, lnSteps, ln1pUnit, ln1pSteps, _⊖_, _⊘_}
-use Rattle.math.proofs.Places.{one-is, exp-digits, exp-units}
+use Rattle.math.proofs.Places.{zero-is, one-is, exp-digits, exp-units}
 use Rattle.laws.proofs.Choices.{yes, no, never}
 use Rattle.math.proofs.Tests.{neg-above, neg-under, from-half}
 use Rattle.bounds.specs.Fraction.{Fraction, size, whole, half, Within, _⊞_, _⊠_, _≲_}
@@ -71,10 +71,6 @@ step-far x h k = simp (is-true (lt x zero) h, k)
 step-zero : (x : Float) → T (eq x zero) → expSteps x ≡ one
 unfolding expSteps
 step-zero x h = simp (never (lt x zero) (zero-not-below x h), never (lt zero x) (zero-not-above x h), is-true (eq x zero) h)
-
-zero-is : Is zero 0
-unfolding ofBits
-zero-is = (refl, refl)
 
 unit-of : (z : Float) → Sized z 1074 → T (le zero z) × T (le z one)
 unit-of z s = (le-of-values zero z 0 (2 ^ 1074) (s .v) (2 ^ 1074) (pow-pos 1074) (pow-pos 1074) zero-is (s .is) (least (s .v) (2 ^ 1074)), le-of-values z one (s .v) (2 ^ 1074) (2 ^ 1074) (2 ^ 1074) (pow-pos 1074) (pow-pos 1074) (s .is) one-is (mul-le-mul-right (2 ^ 1074) (s .top)))

@@ -20,7 +20,7 @@ use Rattle.math.specs.Steps.{zero, half, one, smallest, scale, field, si
 use Rattle.math.proofs.Places.{positive-to, half-is, one-is}
 
 -- ---- a significand
-low : (b : ℕ) → b % 4503599627370496 < 4503599627370496
+pub low : (b : ℕ) → b % 4503599627370496 < 4503599627370496
 low b = omega arith
 
 pub significand-half : (b : ℕ) → T (le half (significand b))

@@ -25,6 +25,10 @@ unfolding ofBits
 sound128 = record { low = lit≤ tt; half-is = (refl, refl); far-is = (refl, refl); per-is = (refl, refl); all = refl }
 
 -- ---- the constants
+pub zero-is : Is zero 0
+unfolding ofBits
+zero-is = (refl, refl)
+
 pub one-is : Is one (2 ^ 1074)
 unfolding ofBits
 one-is = (refl, refl)

@@ -11,16 +11,21 @@ use lib.Ieee.Fits.{and-i, eq→eqb, down-pos}
 use Rattle.rounding.proofs.Values.{lt-or-ge, or-left, or-right}
 use Rattle.math.specs.Steps.{zero, half, one, end, _⊘_}
 
+-- ---- nothing whose sign is not set is below zero
+pub plain-not-below : (m : ℕ) (e : ℤ) → T (lt (fin false m e) zero) → ⊥
+unfolding lt ofBits
+plain-not-below m e h = none (m * up e * 1) (down e) (ltb→lt (m * up e * 1) (0 * 1 * down e) h)
+  where
+    none : (a d : ℕ) → a < 0 * 1 * d → ⊥
+    none a d h = omega arith
+
 -- ---- x below zero and above -746, by -x
 pub neg-above : (x : Float) → T (lt x zero) → T (lt zero (neg x))
 unfolding lt neg ofBits
 neg-above nan h = absurd h
 neg-above (inf true) h = tt
 neg-above (inf false) h = absurd h
-neg-above (fin false m e) h = absurd (none (m * up e * 1) (down e) (ltb→lt (m * up e * 1) (0 * 1 * down e) h))
-  where
-    none : (a c : ℕ) → a < 0 * 1 * c → ⊥
-    none a c h = omega arith
+neg-above (fin false m e) h = absurd (plain-not-below m e h)
 neg-above (fin true m e) h = lt→ltb (0 * 1 * down e) (m * up e * 1) (turn (m * up e * 1) (down e) (ltb→lt 0 (m * up e * 1 + 0 * 1 * down e) h))
   where
     turn : (a d : ℕ) → 0 < a + 0 * 1 * d → 0 * 1 * d < a

@@ -13,6 +13,10 @@ use Rattle.rounding.proofs.Nearest.{round-near}
 use Rattle.rounding.proofs.Operations.{mul-units, div-units, add-units, sub-units}
 use Rattle.rounding.proofs.Values.{le-units}
 
+-- a sum by its parts
+pub sum-top : (x y : ℕ) {X Y Z : ℕ} → x ≤ X → y ≤ Y → X + Y ≤ Z → x + y ≤ Z
+sum-top x y h k l = omega arith
+
 -- a common factor taken off
 off : (U x y : ℕ) → 0 < U → x * U ≤ y * U → x ≤ y
 off U x y h k = le-of-mul-le-mul-right k h

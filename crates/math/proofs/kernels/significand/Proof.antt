@@ -1,15 +1,11 @@
 -- `math::kernels::significand` meets its contract. Assumes nothing.
 use mathlib.Core.Path.{refl}
-use Prim.Native.Nat.{ℕ, _%_, _<_}
-use native.Mathlib.Omega.{arith}
+use Prim.Native.Nat.{_%_}
 use borrow.Author.Needs.{needs}
 use Rattle.rounding.proofs.Fields.{significand-defined}
-use Rattle.math.proofs.Halves.{significand-half, significand-one}
+use Rattle.math.proofs.Halves.{low, significand-half, significand-one}
 use Rattle.math.proofs.kernels.significand.Statement.{statement}
 use Rattle.math.proofs.kernels.significand.Tie as tie
-
-low : (b : ℕ) → b % 4503599627370496 < 4503599627370496
-low b = omega arith
 
 add-result : tie.Need-add-result
 add-result c = search needs
