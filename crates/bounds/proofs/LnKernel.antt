@@ -1,7 +1,7 @@
 -- -ln x from 1/2 to 1: the table's entry for 1 - a, plus the polynomial at s = d / (1 - a), where 1 - x = a + d. Assumes nothing.
 use mathlib.Core.Path.{_≡_, refl, ap, _∙_, subst}
 use Prim.Native.Nat.{ℕ, _+_, _-_, _*_, _^_, _≤_, _<_}
-use native.Mathlib.Nat.{le-trans, le-of-eq, lt-of-lt-of-le, mul-comm, mul-le-mul-left, mul-le-mul-right, mul-le-mul, le-of-mul-le-mul-right, sub-le}
+use native.Mathlib.Nat.{le-trans, lt-of-lt-of-le, mul-le-mul-left, mul-le-mul-right, le-of-mul-le-mul-right, sub-le}
 use native.Mathlib.Omega.{arith}
 use lib.Dec.{T, lit≤, lit<}
 use lib.Pow.{pow-pos}

@@ -1,13 +1,13 @@
 -- ln by its branches: how large what is negated at the end is, and that no branch gives -0. Assumes nothing.
-use mathlib.Core.Path.{_≡_, refl, sym, ap, _∙_, subst}
-use Prim.Native.Nat.{ℕ, _+_, _-_, _*_, _/_, _%_, _^_, _≤_, _<_}
+use mathlib.Core.Path.{_≡_, refl, subst}
+use Prim.Native.Nat.{ℕ, _+_, _-_, _*_, _%_, _^_, _≤_, _<_}
 use native.Mathlib.Nat.{le-trans, le-of-eq, lt-of-le-of-lt, mul-le-mul, mul-le-mul-right, le-of-mul-le-mul-right}
 use native.Mathlib.Omega.{arith}
 use mathlib.Core.Bool.{Bool, true, false, cond}
 use lib.Dec.{T, lit≤, lit<}
 use lib.IntN.{pos}
 use lib.Pow.{pow-pos}
-use lib.Ieee.{Float, inf, fin, binary64, fits, neg, lt, le, eq, ofBits, toBits, ofInt}
+use lib.Ieee.{Float, binary64, fits, neg, lt, le, ofBits, toBits, ofInt}
 use lib.Ieee.Bits.{ofBits-fits, toBits-lt}
 use lib.Ieee.Fits.{add-fits}
 use Rattle.rounding.specs.Units.{Is, Sized, Times, Minus}
@@ -15,7 +15,7 @@ use Rattle.rounding.proofs.Near.{sum-top, mul-near, add-near}
 use Rattle.rounding.proofs.Casts.{int-is}
 use Rattle.rounding.proofs.Minus.{minus, never-minus-zero}
 use Rattle.rounding.proofs.Values.{plain-is, digits, one-number}
-use Rattle.math.specs.Steps.{zero, half, one, ln2, lit, smallest, scale, field, significand, lnHalf, lnDown, lnBelow, lnAbove, _⊕_, _⊖_, _⊗_}
+use Rattle.math.specs.Steps.{zero, half, one, ln2, lit, smallest, scale, field, significand, lnHalf, lnDown, lnBelow, lnAbove, _⊖_, _⊗_}
 use Rattle.math.proofs.Places.{zero-is}
 use Rattle.math.proofs.Halves.{significand-half, significand-one, scaled-least}
 use Rattle.laws.proofs.Choices.{no}

@@ -1,13 +1,13 @@
 -- How near the polynomials lie to the first terms of their series, in units. Assumes nothing.
-use mathlib.Core.Path.{_≡_, refl, sym, ap, subst}
+use mathlib.Core.Path.{_≡_, refl, ap}
 use Prim.Native.Nat.{ℕ, _+_, _-_, _*_, _^_, _≤_, _<_}
-use native.Mathlib.Nat.{le-refl, le-trans, le-of-eq, lt-of-le-of-lt, mul-comm, mul-le-mul-left, mul-le-mul-right, mul-le-mul, le-of-mul-le-mul-right}
+use native.Mathlib.Nat.{le-refl, le-trans, le-of-eq, lt-of-le-of-lt, mul-le-mul-left, mul-le-mul-right, mul-le-mul, le-of-mul-le-mul-right}
 use native.Mathlib.Omega.{arith}
 use lib.Dec.{T, lit≤, lit<}
 use lib.Pow.{pow-pos}
 use lib.Ieee.{Float, binary64, fits, ofBits}
 use lib.Ieee.Fits.{mul-fits}
-use Rattle.rounding.specs.Units.{Is, Digits, Times, Whole}
+use Rattle.rounding.specs.Units.{Is}
 use Rattle.rounding.proofs.Near.{sum-top, mul-near, add-near, sub-near, mul-no-more}
 use Rattle.rounding.proofs.Values.{plain-is, digits, one-number}
 use Rattle.math.specs.Steps.{half, one, third, quarter, fifth, sixth, part24, part120, fall, expPoly, lnFall, lnRise, _⊕_, _⊖_, _⊗_}

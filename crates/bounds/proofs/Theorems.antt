@@ -1,19 +1,19 @@
 -- Document 01, port order 2, of the definitions in rounded steps: the exact values, the bounds without slack, and those within 2 ^ -40. Every x and y is a value of binary64.
 -- The code of `math` equals these definitions, so each theorem holds of the code. Assumes nothing.
-use mathlib.Core.Path.{_≡_, refl, sym, ap, _∙_, subst}
+use mathlib.Core.Path.{_≡_, refl, sym, _∙_, subst}
 use mathlib.Core.Logic.{inl, inr}
-use Prim.Native.Nat.{ℕ, _+_, _*_, _^_, _≤_, _<_}
+use Prim.Native.Nat.{ℕ, _*_, _^_, _≤_, _<_}
 use native.Mathlib.Nat.{le-trans, lt-of-le-of-lt, mul-le-mul-right}
 use native.Mathlib.Omega.{arith}
 use mathlib.Core.Bool.{Bool, true, false, cond}
 use lib.Dec.{T, lit≤, lit<}
 use lib.Pow.{pow-pos}
-use lib.Ieee.{Float, nan, inf, fin, binary64, fits, neg, div, lt, le, eq, ofBits, toBits, toUnsigned, add, sub, mul}
-use lib.Ieee.Bits.{is-true, is-false, ofBits-toBits}
+use lib.Ieee.{Float, nan, inf, binary64, fits, neg, div, lt, le, eq, ofBits, toBits, toUnsigned, add, sub, mul}
+use lib.Ieee.Bits.{is-true, ofBits-toBits}
 use lib.Ieee.Fits.{neg-fits, add-fits}
 use lib.Ieee.Order.{le-of-values}
 use lib.Ieee.Positive.{num, den}
-use Rattle.rounding.specs.Units.{Is, Sized, Minus}
+use Rattle.rounding.specs.Units.{Sized, Minus}
 use Rattle.rounding.specs.Grid.{cut, index, rest}
 use Rattle.rounding.proofs.Values.{le-units}
 use Rattle.tables.specs.Tables.{entry, mlogs}

@@ -1,6 +1,6 @@
 -- A significand lies from 1/2 to 1; and the exponent's field of what ln takes apart. Assumes nothing.
-use mathlib.Core.Path.{_≡_, refl, sym, ap, _∙_, subst}
-use Prim.Native.Nat.{ℕ, _+_, _*_, _/_, _%_, _^_, _≤_, _<_}
+use mathlib.Core.Path.{refl}
+use Prim.Native.Nat.{ℕ, _+_, _*_, _%_, _^_, _≤_, _<_}
 use native.Mathlib.Nat.{le-trans, le-of-lt, lt-of-le-of-lt, mul-le-mul-right}
 use native.Mathlib.Omega.{arith}
 use mathlib.Core.Logic.{inl, inr}
@@ -9,7 +9,6 @@ use lib.Dec.{T, lit<, lit≤, ltb→lt, lt→ltb}
 use lib.IntN.{pos}
 use lib.Pow.{pow-pos}
 use lib.Ieee.{Float, nan, inf, fin, binary64, up, down, fits, isNan, lt, le, ofBits, toBits}
-use lib.Ieee.Fits.{mul-fits}
 use lib.Ieee.Order.{le-of-values}
 use lib.Ieee.Positive.{positive, value-pos}
 use Rattle.rounding.specs.Units.{Is, Digits, Times}

@@ -6,7 +6,7 @@ use native.Mathlib.Omega.{arith}
 use mathlib.Core.Bool.{false}
 use lib.IntN.{pos, negsuc}
 use lib.Dec.{T, lit<, lit≤}
-use lib.Ieee.{Float, inf, fin, binary64, fits, ofBits, lt, le}
+use lib.Ieee.{Float, fin, binary64, fits, ofBits, lt, le}
 use lib.Ieee.Fits.{sub-fits}
 use lib.Ieee.Positive.{positive, between}
 use Rattle.rounding.specs.Units.{Is, Digits, Whole}

@@ -1,12 +1,12 @@
 -- What the tests of the code tell, and the values that it makes by a division. Assumes nothing.
-use mathlib.Core.Path.{_≡_, refl, sym, subst}
+use mathlib.Core.Path.{_≡_, refl}
 use mathlib.Core.Logic.{inl, inr}
 use Prim.Native.Nat.{ℕ, _+_, _*_, _≤_, _<_}
 use native.Mathlib.Omega.{arith}
-use mathlib.Core.Bool.{Bool, true, false, _&&_}
+use mathlib.Core.Bool.{true, false, _&&_}
 use lib.Dec.{T, ltb, eqb, ltb→lt, lt→ltb}
 use lib.IntN.{ℤ, pos, negsuc}
-use lib.Ieee.{Float, nan, inf, fin, binary64, up, down, neg, div, lt, le, eq, ofBits}
+use lib.Ieee.{Float, nan, inf, fin, up, down, neg, div, lt, le, eq, ofBits}
 use lib.Ieee.Fits.{and-i, eq→eqb, down-pos}
 use Rattle.rounding.proofs.Values.{lt-or-ge, or-left, or-right}
 use Rattle.math.specs.Steps.{zero, half, one, end, _⊘_}

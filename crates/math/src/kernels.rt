@@ -5,7 +5,7 @@ ghost use lib.Dec.{T};
 ghost use mathlib.Core.Bool.{false};
 ghost use lib.Ieee.{inf, lt, le};
 ghost use Rattle.rounding.specs.Grid.{cut};
-ghost use Rattle.math.specs.Steps.{zero, half, one, end, smallest, grid64, grid128, fall as fallOf, expPoly, lnFall, lnRise, expNeg, lnHalf, field, significand as significandOf, lnDown, lnBelow, lnAbove, lnPositive, ln1pUnit, _⊗_};
+ghost use Rattle.math.specs.Steps.{zero, half, one, end, grid64, grid128, fall as fallOf, expPoly, lnFall, lnRise, expNeg, lnHalf, field, significand as significandOf, lnDown, lnBelow, lnAbove, lnPositive, ln1pUnit};
 
 // The nearest f64 to ln 2.
 const LN_2: f64 = 0.6931471805599453;

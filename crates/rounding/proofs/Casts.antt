@@ -1,5 +1,5 @@
 -- Whole numbers as floats, and floats as whole numbers. Assumes nothing.
-use mathlib.Core.Path.{_≡_, refl, sym, ap, _∙_, subst}
+use mathlib.Core.Path.{_≡_, sym, ap, _∙_, subst}
 use Prim.Native.Nat.{ℕ, _*_, _/_, _%_, _^_, _≤_, _<_, min}
 use native.Mathlib.Nat.{le-trans, le-of-eq, le-of-lt, lt-of-lt-of-le, lt-of-le-of-lt, mul-one, mul-assoc, mul-right-comm, mul-lt-mul-of-pos-right, mul-pos, mul-div-cancel, mul-mod-left, eq-of-mul-eq-mul-right}
 use native.Mathlib.Omega.{arith}

@@ -1,7 +1,7 @@
 -- Bit patterns: the exponent's field of a value, and the value in [1/2, 1) that has another's digits. Assumes nothing.
 use mathlib.Core.Path.{_≡_, refl, sym, ap, _∙_, subst}
 use mathlib.Core.Logic.{inl, inr}
-use Prim.Native.Nat.{ℕ, suc, _+_, _-_, _*_, _/_, _%_, _^_, _≤_, _<_}
+use Prim.Native.Nat.{ℕ, _+_, _-_, _*_, _/_, _%_, _^_, _≤_, _<_}
 use native.Mathlib.Nat.{le-trans, le-of-eq, lt-of-lt-of-le, not-le-of-lt, lt-of-not-le, mul-le-mul-right, mul-div-cancel, le-div-iff-mul-le}
 use native.Mathlib.Omega.{arith}
 use mathlib.Core.Bool.{Bool, true, false, not, true≢false}
@@ -9,7 +9,7 @@ use lib.Dec.{T, leb, lit≤, leb→le, not-T}
 use lib.Pow.{pow-add, pow-pos, pow-mono}
 use lib.Ieee.{Float, nan, inf, fin, binary64, up, down, size, odd, ofFields, ofBits, toBits, nanBits}
 use lib.Ieee.Bits.{nanBits-is, is-false}
-use lib.Ieee.Digits.{size-lt, size-le, size-reaches, back}
+use lib.Ieee.Digits.{size-lt, size-le, size-reaches}
 use lib.Ieee.Fits.{down-pos, kept-lt}
 use lib.Ieee.Exact.{odd-sign}
 use Rattle.rounding.specs.Units.{Is}

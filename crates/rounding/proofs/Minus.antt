@@ -1,17 +1,17 @@
 -- 0 - z for a z that is not negative: its size is z's, its sign is minus, and it is never -0. Assumes nothing.
 use mathlib.Core.Path.{_≡_, refl, sym, ap, _∙_, subst}
-use mathlib.Core.Logic.{_⊎_, inl, inr}
+use mathlib.Core.Logic.{inl, inr}
 use Prim.Native.Nat.{ℕ, zero, suc, _+_, _-_, _*_, _/_, _%_, _^_, _≤_, _<_, compare}
-use native.Mathlib.Nat.{le-refl, le-trans, le-of-eq, le-of-lt, lt-of-lt-of-le, mul-comm, mul-one, mul-pos, mul-div-cancel, mul-le-mul-right, le-of-mul-le-mul-right, le-div-iff-mul-le}
+use native.Mathlib.Nat.{le-refl, le-trans, le-of-eq, mul-pos, mul-div-cancel, mul-le-mul-right, le-of-mul-le-mul-right, le-div-iff-mul-le}
 use native.Mathlib.Omega.{arith}
-use mathlib.Core.Bool.{Bool, true, false, _&&_, _||_, cond, true≢false}
-use lib.Dec.{T, ltb, eqb, lt→ltb, lit<}
+use mathlib.Core.Bool.{Bool, true, false, _&&_, cond, true≢false}
+use lib.Dec.{T, ltb, eqb, lt→ltb}
 use lib.IntN.{pos}
 use lib.Pow.{pow-pos, pow-mono}
 use lib.Ieee.{Float, nan, inf, fin, binary64, up, down, size, odd, units, round, sub, le, lt, eq}
 use lib.Ieee.Digits.{size-reaches}
 use lib.Ieee.Exact.{HasValue, odd-sign, round-exact}
-use lib.Ieee.Fits.{and-i, eq→eqb, up-pos, down-pos, round-is}
+use lib.Ieee.Fits.{and-i, eq→eqb, up-pos, round-is}
 use lib.Ieee.Nearest.{closest, nearest-ge}
 use lib.Ieee.Order.{drop}
 use lib.Ieee.Positive.{num, den}

@@ -1,5 +1,5 @@
 -- The cut of t to a grid whose step is G = 2 ^ suc h units: ((t - G / 2) + C) - C, for C = 3 * 2 ^ 51 * G, is j * G with j * G ≤ t ≤ (j + 1) * G. Assumes nothing.
-use mathlib.Core.Path.{_≡_, refl, sym, ap, _∙_, subst}
+use mathlib.Core.Path.{_≡_, sym, ap, _∙_, subst}
 use Prim.Native.Nat.{ℕ, suc, _+_, _-_, _*_, _^_, _≤_, _<_}
 use native.Mathlib.Nat.{le-trans, le-of-eq, le-of-lt, lt-of-lt-of-le, lt-of-le-of-lt, lt-of-not-le, not-le-of-lt, mul-comm, mul-assoc, mul-lt-mul-of-pos-right, mul-le-mul-right, le-of-mul-le-mul-right, lt-of-mul-lt-mul-right, mul-pos, mul-div-cancel, mul-sub, sub-le}
 use native.Mathlib.Omega.{arith}

@@ -1,6 +1,6 @@
 -- Grid points: ((t - G / 2) + C) - C is t cut down to a multiple of the grid's step G, for C = 3 * 2 ^ 51 * G. Definitions only.
 use mathlib.Core.Path.{_≡_}
-use Prim.Native.Nat.{ℕ, suc, _*_, _^_, _-_, _≤_, _<_}
+use Prim.Native.Nat.{ℕ, suc, _*_, _^_, _-_, _≤_}
 use lib.Dec.{T}
 use lib.Ieee.{Float, binary64, add, sub, mul, ofBits, toUnsigned, inUnsigned}
 use Rattle.rounding.specs.Units.{Is, Whole}

@@ -1,9 +1,8 @@
 -- `math::exp` meets its contract: its tests are the definition's. Assumes nothing.
-use mathlib.Core.Path.{_≡_, refl, sym, ap, _∙_}
-use mathlib.Core.Bool.{false}
+use mathlib.Core.Path.{ap}
 use borrow.Author.Needs.{needs}
-use lib.Ieee.{Float, nan, inf, binary64, neg, div, lt, ofBits}
-use Rattle.math.specs.Steps.{zero, one, end, expSteps, expNeg, _⊘_}
+use lib.Ieee.{Float}
+use Rattle.math.specs.Steps.{one, expSteps, _⊘_}
 use Rattle.laws.proofs.Choices.{yes}
 use Rattle.math.proofs.Tests.{neg-above, neg-under, over-zero, no-number}
 use Rattle.math.proofs.exp.Statement.{statement}

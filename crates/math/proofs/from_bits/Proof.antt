@@ -1,8 +1,8 @@
 -- `math::from_bits` meets its contract: a NaN's pattern lies above infinity's, its sign left off. Assumes nothing.
-use mathlib.Core.Path.{_≡_, refl, sym, ap, _∙_, subst}
+use mathlib.Core.Path.{_≡_, refl, sym, _∙_, subst}
 use Prim.Native.Nat.{ℕ, _%_, _<_, _≤_}
 use native.Mathlib.Nat.{not-le-of-lt}
-use mathlib.Core.Bool.{Bool, true, not}
+use mathlib.Core.Bool.{Bool, not}
 use borrow.Author.Needs.{needs}
 use lib.Dec.{T, ltb, ltb→lt, lt→ltb, not-T}
 use lib.Ieee.{Float, nan, inf, fin, binary64, isNan, nanBits, ofBits}

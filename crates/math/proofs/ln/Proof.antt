@@ -1,5 +1,4 @@
 -- `math::ln` meets its contract: its tests are the definition's. Assumes nothing.
-use borrow.Author.Needs.{needs}
 use Rattle.math.specs.Steps.{lnSteps}
 use Rattle.laws.proofs.Choices.{yes}
 use Rattle.math.proofs.Tests.{under-zero, no-number}

@@ -1,11 +1,11 @@
 -- `math::kernels::ln_above` meets its contract. Assumes nothing.
-use mathlib.Core.Path.{_≡_, sym, ap, _∙_, subst}
+use mathlib.Core.Path.{sym, subst}
 use Prim.Native.Nat.{ℕ, _-_, _≤_, _<_}
 use native.Mathlib.Nat.{le-trans}
 use native.Mathlib.Omega.{arith}
 use borrow.Author.Needs.{needs}
 use lib.Dec.{T, lit≤}
-use lib.Ieee.{Float, binary64, fits, toBits}
+use lib.Ieee.{binary64, fits, toBits}
 use lib.Ieee.Bits.{toBits-lt}
 use Rattle.rounding.proofs.Casts.{int-in}
 use Rattle.math.specs.Steps.{field}

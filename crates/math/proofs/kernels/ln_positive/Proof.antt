@@ -1,8 +1,6 @@
 -- `math::kernels::ln_positive` meets its contract: its tests are the definition's. Assumes nothing.
-use mathlib.Core.Path.{ap, sym, subst}
-use mathlib.Core.Bool.{false}
-use borrow.Author.Needs.{needs}
-use lib.Ieee.{Float, lt}
+use mathlib.Core.Path.{ap}
+use lib.Ieee.{Float}
 use Rattle.math.specs.Steps.{zero, _⊖_}
 use Rattle.laws.proofs.Choices.{yes, no}
 use Rattle.math.proofs.Tests.{from-half, above-one, over-zero}
