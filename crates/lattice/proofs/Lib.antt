@@ -1,0 +1,5 @@
+pub mod Spelling
+pub mod Survivors
+pub mod Sifted
+pub mod Edges
+pub mod Theorems

@@ -1,0 +1,4 @@
+pub mod Pieces
+pub mod Lattice
+pub mod Pruning
+pub mod Layout
