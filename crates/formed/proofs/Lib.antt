@@ -1,0 +1,9 @@
+pub mod Tests
+pub mod Ranges
+pub mod Edges
+pub mod Readback
+pub mod Sound
+pub mod Unique
+pub mod Converse
+pub mod Built
+pub mod Theorems
