@@ -10,6 +10,10 @@ use Rattle.lattice.proofs.Edges.{within}
 use Rattle.lattice.proofs.Spelling.{found}
 use Rattle.formed.specs.Held.{After, Row, Rows}
 
+pub length-rows : (f : ℕ → List Edge) (n : ℕ) → length (rows f n) ≡ n
+length-rows f zero = refl
+length-rows f (suc n) = let a = length-append (rows f n) (f n ∷ []) in let b = length-rows f n in omega arith
+
 module _ (pieces : ℕ) where
   wider : (es : List Edge) (n : ℕ) → Row pieces n es → Row pieces (suc n) es
   wider [] n row = tt
@@ -37,10 +41,6 @@ module _ (pieces : ℕ) where
   rows-more (one ∷ others) p row rs r =
       let next : p + suc (length others) ≡ suc p + length others = omega arith in
       (rs .0, rows-more others (suc p) row (rs .1) (subst (λ (q : ℕ). Row pieces q row) next r))
-
-  length-rows : (f : ℕ → List Edge) (n : ℕ) → length (rows f n) ≡ n
-  length-rows f zero = refl
-  length-rows f (suc n) = let a = length-append (rows f n) (f n ∷ []) in let b = length-rows f n in omega arith
 
   rows-sound : (f : ℕ → List Edge) → ((n : ℕ) → Row pieces n (f n)) → (n : ℕ) → Rows pieces 0 (rows f n)
   rows-sound f sound zero = tt

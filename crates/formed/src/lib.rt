@@ -18,8 +18,8 @@ pub struct Span {
     pub n: usize,
 }
 
-// The number at a place, as an index.
-fn read(numbers: &[u32], k: usize) -> usize
+// The number at a place, as an index. For callers that have shown that the place is there.
+pub fn read(numbers: &[u32], k: usize) -> usize
     requires { ⌜ k < length (now numbers) ⌝ }
     ensures { λ r. ⌜ r ≡ getD (now (numbers .entry)) k 0 ⌝ }
 {
