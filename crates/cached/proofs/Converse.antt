@@ -3,10 +3,11 @@ use mathlib.Core.Path.{_≡_, refl, sym, ap, _∙_, subst}
 use mathlib.Core.List.{List, [], _∷_, _++_, map}
 use Prim.Native.Nat.{ℕ, suc, _+_, _-_, _*_, _≤_}
 use native.Mathlib.Omega.{arith}
-use lib.ListN.{length, getD, length-map}
+use lib.ListN.{length, getD, length-map, length-append}
 use lib.Seq.{slice}
 use Rattle.lattice.specs.Lattice.{Edge}
-use Rattle.lattice.specs.Layout.{joined, offsets, offsetsFrom, edgeCount, charCount, spansFrom}
+use Rattle.lattice.specs.Layout.{joined, offsets, edgeCount, charCount, spansFrom}
+use Rattle.lattice.proofs.Joined.{offsets-long}
 use Rattle.formed.specs.declared.Span.{Span}
 use Rattle.formed.specs.Formed.{Inside, Formed}
 use Rattle.formed.specs.Held.{Rows}
@@ -17,10 +18,6 @@ use Rattle.cached.specs.Held.{Lattices}
 use Rattle.cached.proofs.Spans.{same-span}
 use Rattle.cached.proofs.Readback.{All, four, first-edges}
 use Rattle.cached.proofs.Fronts.{Front, first-front, next-front}
-
-offsets-long : (at : ℕ) (lattice : List (List Edge)) → length (offsetsFrom at lattice) ≡ suc (length lattice)
-offsets-long at [] = refl
-offsets-long at (row ∷ rows) = ap suc (offsets-long (at + length row) rows)
 
 -- the span of a lattice whose edges begin at `edge` and whose offsets begin at `end`
 abbrev spanOf : ℕ → ℕ → List (List Edge) → Span
@@ -110,3 +107,13 @@ module _ (starts ids ends spans : List ℕ) (pieces : ℕ) (same : length starts
   all-good ((row ∷ rows) ∷ others) w edge end r sound =
       from-here (WordFormed starts ids ends spans pieces) w (length others) (word-good row rows others w edge end r (sound .0))
       (all-good others (suc w) (edge + edgeCount (row ∷ rows)) (end + length (offsets (row ∷ rows))) (next-rest row rows others w edge end r) (sound .1))
+
+  -- where the offsets of all these words end
+  pub ends-long : (lattices : List (List (List Edge))) (w edge end : ℕ) → Rest lattices w edge end → Lattices pieces lattices → offsetsBefore spans (w + length lattices) ≡ end + length (joined (map offsets lattices))
+  ends-long [] w edge end r sound = let z : w + 0 ≡ w = omega arith in let b = r .offsets-before in ap (offsetsBefore spans) z ∙ omega arith
+  ends-long ([] ∷ others) w edge end r sound = absurd sound
+  ends-long ((row ∷ rows) ∷ others) w edge end r sound =
+      let next : w + suc (length others) ≡ suc w + length others = omega arith in
+      let rest = ends-long others (suc w) (edge + edgeCount (row ∷ rows)) (end + length (offsets (row ∷ rows))) (next-rest row rows others w edge end r) (sound .1) in
+      let both = length-append (offsets (row ∷ rows)) (joined (map offsets others)) in
+      ap (offsetsBefore spans) next ∙ rest ∙ omega arith

@@ -1,21 +1,18 @@
 -- The lattices that a well-formed cache's slices hold, read back word by word. Assumes nothing.
 use mathlib.Core.Path.{_≡_, refl, sym, ap, ap₂, _∙_}
-use mathlib.Core.List.{List, [], _∷_, _++_, map, map-append, append-assoc}
+use mathlib.Core.List.{List, [], _∷_, _++_, map, map-append}
 use Prim.Native.Nat.{ℕ, zero, suc, _+_, _-_, _*_, _≤_, _<_}
 use native.Mathlib.Omega.{arith}
 use lib.ListN.{length, getD, length-map}
 use lib.Seq.{slice, slice-cons, slice-empty, length-slice}
 use Rattle.lattice.specs.Lattice.{Edge}
 use Rattle.lattice.specs.Layout.{joined, offsets, edgeCount, charCount, spansFrom}
+use Rattle.lattice.proofs.Joined.{joined-append}
 use Rattle.formed.specs.Held.{Held}
 use Rattle.formed.proofs.Theorems.{readBack, well-formed-holds}
 use Rattle.cached.specs.Cached.{spanAt, edgesBefore, offsetsBefore, WordFormed}
 use Rattle.cached.specs.Held.{Lattices}
 use Rattle.cached.proofs.Chains.{Link, parts}
-
-pub joined-append : {A : Type 0} (a b : List (List A)) → joined (a ++ b) ≡ joined a ++ joined b
-joined-append [] b = refl
-joined-append (l ∷ ls) b = ap (λ r. l ++ r) (joined-append ls b) ∙ sym (append-assoc l (joined ls) (joined b))
 
 pub four : (spans : List ℕ) (k past : ℕ) → k + 4 ≡ past → past ≤ length spans → slice k past spans ≡ getD spans k 0 ∷ getD spans (k + 1) 0 ∷ getD spans (k + 2) 0 ∷ getD spans (k + 3) 0 ∷ []
 four spans k past e l =

@@ -1,8 +1,9 @@
 -- What it means that a cache is well formed: its slices hold the lattices of its words, one after the other from slot 0.
 -- Assumes nothing.
-use mathlib.Core.Path.{_≡_, refl, sym, ap, subst}
+use mathlib.Core.Path.{_≡_, refl, sym, ap, _∙_, subst}
 use mathlib.Core.List.{List, [], _∷_, map}
-use Prim.Native.Nat.{ℕ, suc, _*_}
+use Prim.Native.Nat.{ℕ, suc, _+_, _*_}
+use native.Mathlib.Nat.{zero-add}
 use native.Mathlib.Omega.{arith}
 use native.Mathlib.Decide.{decLt}
 use lib.ListN.{length, length-map}
@@ -16,11 +17,11 @@ use Rattle.cached.specs.Cached.{edgesBefore, offsetsBefore, CacheFormed,
 use Rattle.cached.specs.Held.{Lattices, Begins, Held}
 use Rattle.cached.proofs.Chains.{Chain, chain-begins}
 use Rattle.cached.proofs.Fronts.{begins-front}
-use Rattle.cached.proofs.Converse.{Rest, all-good}
+use Rattle.cached.proofs.Converse.{Rest, all-good, ends-long}
 use Rattle.cached.proofs.Readback.{latticesAt, All, length-lattices, sound, partOf, edges-are, start-link, id-link, offsetsOf, ends-are, offset-link, fourOf, spans-are, span-link}
 
 -- the rows of each lattice that is built
-built-lattices : (setting : ℕ) (pieces words : List (List ℕ)) → Lattices (length pieces) (cache setting pieces words)
+pub built-lattices : (setting : ℕ) (pieces words : List (List ℕ)) → Lattices (length pieces) (cache setting pieces words)
 built-lattices setting pieces [] = tt
 built-lattices setting pieces (word ∷ words) = first (lattice setting pieces word) (cache setting pieces words) (length-rows (ending setting pieces word) (suc (length word))) (built-sound setting pieces word) (built-lattices setting pieces words)
   where
@@ -52,11 +53,16 @@ module _ (starts ids ends spans : List ℕ) (pieces words : ℕ) where
       all w a b = formed w (omega arith)
 
   -- and slices that hold a lattice for each word are a well-formed cache
-  pub holds-well-formed : (lattices : List (List (List Edge))) → length starts ≡ length ids → Held starts ids ends spans pieces words lattices → CacheFormed starts ids ends spans pieces words
-  holds-well-formed lattices same held w l =
-      let many = held .many in
-      let rest : Rest starts ids ends spans pieces same lattices 0 0 0 = record { edges-before = refl; offsets-before = refl; by-start = begins-front starts _ (held .starts-are); by-id = begins-front ids _ (held .ids-are); by-end = begins-front ends _ (held .ends-are); by-span = begins-front spans _ (held .spans-are) } in
-      all-good starts ids ends spans pieces same lattices 0 0 0 rest (held .rows) w (omega arith) (omega arith)
+  module _ (lattices : List (List (List Edge))) (same : length starts ≡ length ids) (held : Held starts ids ends spans pieces words lattices) where
+    rest : Rest starts ids ends spans pieces same lattices 0 0 0
+    rest = record { edges-before = refl; offsets-before = refl; by-start = begins-front starts _ (held .starts-are); by-id = begins-front ids _ (held .ids-are); by-end = begins-front ends _ (held .ends-are); by-span = begins-front spans _ (held .spans-are) }
+
+    pub holds-well-formed : CacheFormed starts ids ends spans pieces words
+    holds-well-formed w l = let many = held .many in all-good starts ids ends spans pieces same lattices 0 0 0 rest (held .rows) w (omega arith) (omega arith)
+
+    -- its offsets end where those of its last word do
+    pub offsets-used : offsetsBefore spans words ≡ length (flat lattices .ends)
+    offsets-used = let many : words ≡ 0 + length lattices = let m = held .many in omega arith in ap (offsetsBefore spans) many ∙ ends-long starts ids ends spans pieces same lattices 0 0 0 rest (held .rows) ∙ zero-add _
 
 -- a cache that is built from pieces is well formed wherever it is laid out
 pub built-well-formed : (starts ids ends spans : List ℕ) (setting : ℕ) (pieces words : List (List ℕ)) → length starts ≡ length ids → Begins starts (flat (cache setting pieces words) .starts) → Begins ids (flat (cache setting pieces words) .ids)

@@ -8,7 +8,8 @@ use formed::Span;
 use formed::formed;
 use formed::read;
 ghost use mathlib.Core.Path.{_≡_};
-ghost use Prim.Native.Nat.{_+_, _*_, _<_};
+ghost use Prim.Native.Nat.{_≤_, _+_, _*_, _<_};
+ghost use lib.ListN.{length};
 ghost use Rattle.formed.specs.Formed.{Says};
 ghost use Rattle.cached.specs.Cached.{spanAt, edgesBefore, offsetsBefore, Present, WordFormed, Answers};
 
@@ -34,7 +35,7 @@ fn span_at(spans: &[u32], word: usize) -> Span
 
 // Where the edges of the words before end.
 fn edges_before(spans: &[u32], word: usize) -> usize
-    requires { ⌜ Present (now spans) word ⌝ }
+    requires { ⌜ 4 * word ≤ length (now spans) ⌝ }
     ensures { λ r. ⌜ r ≡ edgesBefore (now (spans .entry)) word ⌝ }
 {
     if word == 0 {
@@ -44,9 +45,9 @@ fn edges_before(spans: &[u32], word: usize) -> usize
     before.to
 }
 
-// Where the offsets of the words before end: each has n + 2.
-fn offsets_before(spans: &[u32], word: usize) -> usize
-    requires { ⌜ Present (now spans) word ⌝ }
+// Where the offsets of the words before end: each has n + 2. For callers that have shown that those have spans.
+pub fn offsets_before(spans: &[u32], word: usize) -> usize
+    requires { ⌜ 4 * word ≤ length (now spans) ⌝ }
     ensures { λ r. ⌜ r ≡ offsetsBefore (now (spans .entry)) word ⌝ }
 {
     if word == 0 {

@@ -2,4 +2,5 @@ pub mod Spelling
 pub mod Survivors
 pub mod Sifted
 pub mod Edges
+pub mod Joined
 pub mod Theorems

@@ -1,0 +1,3 @@
+pub mod Bridge
+pub mod Refusing
+pub mod Theorems

@@ -1,0 +1,17 @@
+pub mod Moving
+pub mod Offsets
+pub mod Spans
+pub mod Fronts
+pub mod Flat
+pub mod Sifted
+pub mod Turns
+pub mod Shifts
+pub mod Caches
+pub mod Below
+pub mod Built
+pub mod Checked
+pub mod Remaps
+pub mod Refused
+pub mod Cleared
+pub mod Held
+pub mod Theorems
