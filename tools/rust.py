@@ -1,14 +1,20 @@
 #!/usr/bin/env python3
 """Compile a tool that is written in Rust, and run it.
 
+    python3 tools/rust.py bindings [--library FILE]      the tests and the example of bindings/rust
     python3 tools/rust.py compare [--library FILE]       bits against docs/MATH.md's law
+    python3 tools/rust.py lattices [--library FILE] [--cases N] [--seed N]
+                                                         lattices and refusals against the Rust original
     python3 tools/rust.py bench-math [--library FILE]    speed against libm
     python3 tools/rust.py bench-utf8 [--library FILE]    speed against std::str::from_utf8
+    python3 tools/rust.py bench-lattices [--library FILE]
+                                                         speed against the Rust original
     python3 tools/rust.py filter                         the reference as a filter
 
 The library is the static library with the proved code, which
 tools/native-staticlib export writes. It is looked for in target/ if none is
-named.
+named. The Rust original is compiled from the folder that SPLINTR_SRC names, as
+tools/oracle/README.md says. Other arguments go to the tool.
 """
 
 import argparse
@@ -17,14 +23,23 @@ import sys
 from pathlib import Path
 
 ROOT = Path(__file__).resolve().parents[1]
+OUT = ROOT / "target/tools"
 LIBRARIES = ["target/native/libexport.a", "target/staticlib/libexport.a"]
+RUSTC = ["rustc", "--edition", "2021", "-C", "opt-level=3", "-D", "warnings"]
 
-# Tool: its source, and whether it links the proved code.
+# Tool: its programs, each a source and the kind of what it links, which says
+# what the kind before it says and more: nothing, the proved code by way of
+# bindings/rust, the Rust original too. A source in a folder tests/ is a
+# program of tests.
+ALONE, PROVED, ORIGINAL = range(3)
 TOOLS = {
-    "compare": ("tools/math/compare.rs", True),
-    "bench-math": ("tools/bench/math.rs", True),
-    "bench-utf8": ("tools/bench/utf8.rs", True),
-    "filter": ("tools/math/filter.rs", False),
+    "bindings": (["bindings/rust/tests/lattices.rs", "bindings/rust/examples/aba.rs"], PROVED),
+    "compare": (["tools/math/compare.rs"], PROVED),
+    "lattices": (["tools/lattices/compare.rs"], ORIGINAL),
+    "bench-math": (["tools/bench/math.rs"], PROVED),
+    "bench-utf8": (["tools/bench/utf8.rs"], PROVED),
+    "bench-lattices": (["tools/bench/lattices.rs"], ORIGINAL),
+    "filter": (["tools/math/filter.rs"], ALONE),
 }
 
 
@@ -37,26 +52,60 @@ def library(named):
     sys.exit("rust: no library at " + " or ".join(map(str, places)))
 
 
-def compile_tool(tool, named):
-    """Compile one tool. Its program stands at target/tools/TOOL."""
-    source, linked = TOOLS[tool]
-    program = ROOT / "target/tools" / tool
-    program.parent.mkdir(parents=True, exist_ok=True)
-    command = ["rustc", "--edition", "2021", "-C", "opt-level=3", "-D", "warnings"]
-    command += ["-o", str(program), str(ROOT / source)]
-    if linked:
-        command += ["-C", f"link-arg={library(named)}"]
-    if subprocess.run(command).returncode:
+def original():
+    """The Rust original as a library, built by the oracle's own script."""
+    sys.dont_write_bytecode = True
+    sys.path.insert(0, str(ROOT / "tools/oracle"))
+    import build
+
+    try:
+        return build.original()
+    except (build.Refused, OSError, subprocess.CalledProcessError) as reason:
+        sys.exit(f"rust: {reason}")
+
+
+def rustc(out, source, *more):
+    out.parent.mkdir(parents=True, exist_ok=True)
+    if subprocess.run([*RUSTC, *more, "-o", str(out), str(ROOT / source)]).returncode:
         sys.exit("rust: rustc failed")
-    return program
+    return out
+
+
+def linked(kind, named):
+    """The arguments that link what a tool of this kind needs."""
+    arguments = []
+    if kind >= PROVED:
+        archive = library(named)
+        bindings = OUT / "libcauseylark.rlib"
+        rustc(bindings, "bindings/rust/src/lib.rs", "--crate-name", "causeylark", "--crate-type", "rlib")
+        arguments += ["--extern", f"causeylark={bindings}", "-C", f"link-arg={archive}"]
+    if kind >= ORIGINAL:
+        arguments += ["--extern", f"original={original()}"]
+    return arguments
+
+
+def compile_tool(tool, named):
+    """Compile one tool. Its program stands at target/tools/TOOL; where it has
+    more than one, at target/tools/TOOL-NAME."""
+    sources, kind = TOOLS[tool]
+    arguments = linked(kind, named)
+    programs = []
+    for source in map(Path, sources):
+        program = OUT / (tool if len(sources) == 1 else f"{tool}-{source.stem}")
+        test = ["--test"] if source.parent.name == "tests" else []
+        programs.append(rustc(program, source, *arguments, *test))
+    return programs
 
 
 def main():
-    parser = argparse.ArgumentParser(description=__doc__.splitlines()[0])
+    parser = argparse.ArgumentParser(description=__doc__, formatter_class=argparse.RawDescriptionHelpFormatter)
     parser.add_argument("tool", choices=TOOLS)
     parser.add_argument("--library", metavar="FILE")
-    chosen = parser.parse_args()
-    sys.exit(subprocess.run([compile_tool(chosen.tool, chosen.library)]).returncode)
+    chosen, more = parser.parse_known_args()
+    for program in compile_tool(chosen.tool, chosen.library):
+        ended = subprocess.run([program, *more]).returncode
+        if ended:
+            sys.exit(ended)
 
 
 if __name__ == "__main__":

@@ -10,8 +10,6 @@
 //! Latency: each argument waits for the result before. The cost of that chain
 //! is measured with a function that does nothing, and taken off.
 
-#[path = "../../crates/export/causeylark.rs"]
-mod causeylark;
 #[path = "../math/random.rs"]
 mod random;
 
@@ -146,7 +144,7 @@ fn main() {
         Race::new(
             "exp",
             exp,
-            causeylark::causeylark_exp,
+            causeylark::c::causeylark_exp,
             Some(Time {
                 throughput: 2.0,
                 latency: 1.5,
@@ -156,7 +154,7 @@ fn main() {
         Race::new(
             "ln_1p",
             log1p,
-            causeylark::causeylark_ln_1p,
+            causeylark::c::causeylark_ln_1p,
             Some(Time {
                 throughput: 1.0,
                 latency: 1.0,
@@ -164,7 +162,7 @@ fn main() {
             || random.between(0.0, 1.0),
         ),
         // 1e-9 to 1, evenly over the exponents.
-        Race::new("ln", log, causeylark::causeylark_ln, None, || {
+        Race::new("ln", log, causeylark::c::causeylark_ln, None, || {
             10f64.powf(random.between(-9.0, 0.0))
         }),
     ];

@@ -3,8 +3,6 @@
 //! The text is mixed: words of eight scripts in a random order, so that no branch can be learnt by heart, with spaces
 //! between, 4 MB in all. Both take the whole of it in one call. Rounds alternate, and the best of each counts.
 
-#[path = "../../crates/export/causeylark.rs"]
-mod causeylark;
 #[allow(dead_code)]
 #[path = "../math/random.rs"]
 mod random;

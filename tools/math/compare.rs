@@ -6,8 +6,6 @@
 //! points, at powers of two, among subnormals, at the ends of each case and
 //! where a polynomial shows most of its bits.
 
-#[path = "../../crates/export/causeylark.rs"]
-mod causeylark;
 mod random;
 mod reference;
 
@@ -22,17 +20,17 @@ struct Function {
 const FUNCTIONS: [Function; 3] = [
     Function {
         name: "exp",
-        proved: causeylark::causeylark_exp,
+        proved: causeylark::c::causeylark_exp,
         reference: reference::exp,
     },
     Function {
         name: "ln",
-        proved: causeylark::causeylark_ln,
+        proved: causeylark::c::causeylark_ln,
         reference: reference::ln,
     },
     Function {
         name: "ln_1p",
-        proved: causeylark::causeylark_ln_1p,
+        proved: causeylark::c::causeylark_ln_1p,
         reference: reference::ln_1p,
     },
 ];

@@ -110,10 +110,41 @@ def library(given):
     )
 
 
+def lay(folder, source, mathematics):
+    """Writes folder/src: what is compiled, with the prepared files among it."""
+    prepared = {name: prepare(name, text, mathematics) for name, text in source.items()}
+    shutil.rmtree(folder, ignore_errors=True)
+    shutil.copytree(pathlib.Path(__file__).parent / "src", folder / "src")
+    for name, text in prepared.items():
+        (folder / "src" / "unigram" / name).write_bytes(text.encode())
+
+
+def warn(source):
+    """Says which files are not those that README.md names."""
+    for name, text in source.items():
+        if sha256(text.encode()) != SHA256[name]:
+            print(f"warning: {name} is not the file that README.md names", file=sys.stderr)
+
+
+def original():
+    """Builds target/oracle/original/liboriginal.rlib, the Rust as a library, and gives its path. Lattices ask for no
+    mathematics, so it needs no library of ours."""
+    source = read_source()
+    folder = TARGET / "original"
+    lay(folder, source, "stock")
+    rlib = folder / "liboriginal.rlib"
+    subprocess.run(
+        ["rustc", "-C", "opt-level=3", "-C", "codegen-units=1", "--edition", "2021"]
+        + ["--crate-name", "original", "--crate-type", "rlib", "-D", "warnings", "-o", rlib, folder / "src" / "original.rs"],
+        check=True,
+    )
+    warn(source)
+    return rlib
+
+
 def build(mathematics, given=None):
     """Builds target/oracle/`mathematics`/oracle and writes beside it, in made.txt, from what."""
     source = read_source()
-    prepared = {name: prepare(name, text, mathematics) for name, text in source.items()}
     if mathematics == "ours":
         archive = library(given)
         # The archive need not be position-independent, so the program is not.
@@ -124,10 +155,7 @@ def build(mathematics, given=None):
         # The standard library's functions are those of the C library at hand.
         which = f" of {' '.join(platform.libc_ver())} on {platform.machine()}"
     folder = TARGET / mathematics
-    shutil.rmtree(folder, ignore_errors=True)
-    shutil.copytree(pathlib.Path(__file__).parent / "src", folder / "src")
-    for name, text in prepared.items():
-        (folder / "src" / "unigram" / name).write_bytes(text.encode())
+    lay(folder, source, mathematics)
     subprocess.run(
         ["rustc", "-O", "--edition", "2021", "--crate-name", "oracle", "-o", folder / "oracle"]
         + ["--check-cfg", 'cfg(mathematics, values("ours", "stock"))', "--cfg", f'mathematics="{mathematics}"']
@@ -138,9 +166,7 @@ def build(mathematics, given=None):
     made = [f"mathematics: {mathematics}{which}", *(f"{found} unigram/{name}" for name, found in sums.items())]
     (folder / "made.txt").write_text("\n".join(made) + "\n")
     print("\n".join(made + [str((folder / "oracle").relative_to(ROOT))]))
-    for name in sums:
-        if sums[name] != SHA256[name]:
-            print(f"warning: {name} is not the file that README.md names", file=sys.stderr)
+    warn(source)
 
 
 def main():

@@ -1,24 +1,25 @@
 -- From a cache that was checked to the core that prunes it, and from what the core leaves to what retain promises.
 -- Assumes nothing.
-use mathlib.Core.Path.{_≡_, refl, sym, ap, _∙_}
-use mathlib.Core.List.{List, [], _∷_, _++_, map}
-use Prim.Native.Nat.{ℕ, zero, suc, _-_, _*_, _≤_}
+use mathlib.Core.Path.{_≡_, refl, sym, _∙_}
+use mathlib.Core.List.{List, [], _∷_, map}
+use Prim.Native.Nat.{ℕ, zero, suc, _*_, _≤_}
 use native.Mathlib.Omega.{arith}
-use lib.ListN.{length, drop, replicate, length-append, length-map}
+use lib.ListN.{length, length-map}
 use Rattle.lattice.specs.Lattice.{Edge}
 use Rattle.lattice.specs.Layout.{flat}
 use Rattle.lattice.specs.Pruning.{sift, retained}
 use Rattle.cached.specs.Cached.{CacheFormed, offsetsBefore}
 use Rattle.cached.specs.Held.{Held}
 use Rattle.cached.proofs.Theorems.{readBack, well-formed-holds, offsets-used}
-use Rattle.retain.specs.Retain.{over, Laid, Cached, Written}
-use Rattle.retain.specs.Cleared.{cleared}
+use Rattle.lattice.specs.Written.{Written}
+use Rattle.retain.specs.Retain.{Laid, Cached}
 use Rattle.retain.proofs.Caches.{written-long}
 use Rattle.retain.proofs.Checked.{held-laid}
-use Rattle.retain.proofs.Flat.{spans-long}
+use Rattle.lattice.proofs.Flat.{spans-long}
 use Rattle.retain.proofs.Sifted.{ends-retained}
-use Rattle.retain.proofs.Held.{same-many, column}
-use Rattle.cache.specs.Retain.{filled, Holds, Room, Cleared, Pruned}
+use Rattle.fresh.specs.Slots.{Holds, Room, Cleared}
+use Rattle.cache.specs.Retain.{Pruned}
+use Rattle.fresh.proofs.Filled.{written-room, written-holds}
 
 module _ (words : ℕ) (remap offsets starts ids spans : List ℕ) where
   module _ (formed : CacheFormed starts ids offsets spans (length remap) words) where
@@ -33,13 +34,6 @@ module _ (words : ℕ) (remap offsets starts ids spans : List ℕ) where
         go zero [] formed held = refl
         go zero (l ∷ ls) formed held = let many = held .many in absurd (omega arith)
         go (suc words) lattices formed held = offsets-used starts ids offsets spans (length remap) (suc words) lattices (formed 0 (omega arith) .formed .inside .equally-many) held
-
--- a slice of which the core has written the front
-fits : (front l : List ℕ) {l' : List ℕ} → l' ≡ over front l → length front ≤ length l'
-fits front l e = let a = ap length e in let b = length-append front (drop (length front) l) in omega arith
-
-fill : (front l : List ℕ) {l' : List ℕ} {count : ℕ} → count ≡ length front → l' ≡ over front l → length l' ≡ length l → cleared count l' ≡ filled front (length l)
-fill front l c e n = column front l c e n ∙ ap (λ (k : ℕ). front ++ replicate (length l - k) 0) c
 
 module _ (words : ℕ) (remap offsets starts ids spans : List ℕ) (formed : CacheFormed starts ids offsets spans (length remap) words) (o s i p : List ℕ) (ends count : ℕ)
     (core : (lattices : List (List (List Edge))) → Laid words remap offsets starts ids spans lattices → Written (retained remap lattices) offsets starts ids spans o s i p count) (e : ends ≡ offsetsBefore spans words) where
@@ -56,31 +50,13 @@ module _ (words : ℕ) (remap offsets starts ids spans : List ℕ) (formed : Cac
     spans-many : 4 * words ≡ length (flat (retained remap lattices) .spans)
     spans-many = let a = spans-long 0 0 (retained remap lattices) in let b = length-map lattices (map (sift remap)) in let c = held .many in omega arith
 
-    starts-many : count ≡ length (flat (retained remap lattices) .starts)
-    starts-many = written .edges ∙ same-many (retained remap lattices)
-
     room-of : Room o s i p ends count words
-    room-of =
-        let a = fits (flat (retained remap lattices) .ends) offsets (written .offsets-are) in
-        let b = fits (flat (retained remap lattices) .starts) starts (written .starts-are) in
-        let c = fits (flat (retained remap lattices) .ids) ids (written .ids-are) in
-        let d = fits (flat (retained remap lattices) .spans) spans (written .spans-are) in
-        let x = ends-many in
-        let y = spans-many in
-        let z = starts-many in
-        let w = written .edges in
-        record { in-offsets = omega arith; in-starts = omega arith; in-ids = omega arith; in-spans = omega arith }
+    room-of = written-room (retained remap lattices) offsets starts ids spans words written ends-many spans-many
 
     holds-of : (o' s' i' p' : List ℕ) → Cleared o s i p ends count words o' s' i' p' → Holds (retained remap lattices) offsets starts ids spans o' s' i' p' count
     holds-of o' s' i' p' clear =
         let long = written-long stands written in
-        record {
-          edges = written .edges;
-          offsets-are = clear .offsets-are ∙ fill (flat (retained remap lattices) .ends) offsets ends-many (written .offsets-are) (long .offsets-long);
-          starts-are = clear .starts-are ∙ fill (flat (retained remap lattices) .starts) starts starts-many (written .starts-are) (long .starts-long);
-          ids-are = clear .ids-are ∙ fill (flat (retained remap lattices) .ids) ids (written .edges) (written .ids-are) (long .ids-long);
-          spans-are = clear .spans-are ∙ fill (flat (retained remap lattices) .spans) spans spans-many (written .spans-are) (long .spans-long);
-        }
+        written-holds (retained remap lattices) offsets starts ids spans words written ends-many spans-many (long .offsets-long) (long .starts-long) (long .ids-long) (long .spans-long) clear
 
   pub has-room : Room o s i p ends count words
   has-room = room-of (readBack starts ids offsets spans (length remap) words) (well-formed-holds starts ids offsets spans (length remap) words formed)

@@ -1,3 +1,4 @@
 pub mod Bridge
 pub mod Refusing
 pub mod Theorems
+pub mod Builds

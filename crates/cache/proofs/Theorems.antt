@@ -28,22 +28,17 @@ use Rattle.retain.proofs.Held.{same-many}
 use Rattle.retain.proofs.Theorems.{remap-fits, remap-refused}
 use Rattle.cache.specs.declared.Retained.{Retained}
 use Rattle.cache.specs.declared.Retained.the-variants.{Edges, Refused}
-use Rattle.cache.specs.Retain.{filled, Holds, Why, bad-lattice, bad-remap, Answers}
+use Rattle.fresh.specs.Build.{Results}
+use Rattle.fresh.specs.Slots.{filled, Holds}
+use Rattle.cache.specs.Retain.{Why, bad-lattice, bad-remap, Answers}
 use Rattle.cache.proofs.Refusing.{fitting, reason}
 
--- what the four slices hold
-pub record Slices : Type 0 where
-  pub offsets : List ℕ
-  pub starts : List ℕ
-  pub ids : List ℕ
-  pub spans : List ℕ
-
 -- a call that takes x, answers r and leaves y, by the contract of `retain`
-abbrev pub Call : ℕ → List ℕ → Slices → Slices → Retained → Type 0
+abbrev pub Call : ℕ → List ℕ → Results → Results → Retained → Type 0
 Call words remap x y r = Answers (x .offsets) (x .starts) (x .ids) (x .spans) words remap (y .offsets) (y .starts) (y .ids) (y .spans) r
 
 -- the slices hold the cache that is built from these pieces
-pub record Built (setting : ℕ) (pieces words : List (List ℕ)) (x : Slices) : Type 0 where
+pub record Built (setting : ℕ) (pieces words : List (List ℕ)) (x : Results) : Type 0 where
   pub equally-many : length (x .starts) ≡ length (x .ids)
   pub holds : Held (x .starts) (x .ids) (x .offsets) (x .spans) (length pieces) (length words) (cache setting pieces words)
 
@@ -58,7 +53,7 @@ filled-begins front n e = ap (take (length front)) e ∙ take-append-seam front 
 filled-long : (front : List ℕ) (n : ℕ) {xs : List ℕ} → xs ≡ filled front n → length xs ≡ length front + (n - length front)
 filled-long front n e = let a = length-replicate {A = ℕ} (n - length front) 0 in let b = length-append front (replicate (n - length front) 0) in let c = ap length e in omega arith
 
-still-built : (setting : ℕ) (pieces words : List (List ℕ)) (x y : Slices) (count : ℕ) → length (x .starts) ≡ length (x .ids) → Holds (cache setting pieces words) (x .offsets) (x .starts) (x .ids) (x .spans) (y .offsets) (y .starts) (y .ids) (y .spans) count → Built setting pieces words y
+pub still-built : (setting : ℕ) (pieces words : List (List ℕ)) (x y : Results) (count : ℕ) → length (x .starts) ≡ length (x .ids) → Holds (cache setting pieces words) (x .offsets) (x .starts) (x .ids) (x .spans) (y .offsets) (y .starts) (y .ids) (y .spans) count → Built setting pieces words y
 still-built setting pieces words x y count same h =
     let lattices = cache setting pieces words in
     let a = filled-long (flat lattices .starts) (length (x .starts)) (h .starts-are) in
@@ -77,19 +72,19 @@ still-built setting pieces words x y count same h =
     }
 
 -- ---- one pruning: it is not refused, and leaves the cache built afresh from the survivors, with zeros behind
-pub record Pruned (setting : ℕ) (pieces words : List (List ℕ)) (x y : Slices) (r : Retained) : Type 0 where
+pub record Pruned (setting : ℕ) (pieces words : List (List ℕ)) (x y : Results) (r : Retained) : Type 0 where
   pub count : ℕ
   pub answer : r ≡ Edges count
   pub afresh : Holds (cache setting pieces words) (x .offsets) (x .starts) (x .ids) (x .spans) (y .offsets) (y .starts) (y .ids) (y .spans) count
 
-module _ (setting : ℕ) {remap : List ℕ} {pieces : List (List ℕ)} (m : Remap 0 remap) (d : Distinct pieces) (l : length remap ≡ length pieces) (words : List (List ℕ)) {x : Slices} (b : Built setting pieces words x) where
+module _ (setting : ℕ) {remap : List ℕ} {pieces : List (List ℕ)} (m : Remap 0 remap) (d : Distinct pieces) (l : length remap ≡ length pieces) (words : List (List ℕ)) {x : Results} (b : Built setting pieces words x) where
   held : Held (x .starts) (x .ids) (x .offsets) (x .spans) (length remap) (length words) (cache setting pieces words)
   held = subst (λ (n : ℕ). Held (x .starts) (x .ids) (x .offsets) (x .spans) n (length words) (cache setting pieces words)) (sym l) (b .holds)
 
   formed : CacheFormed (x .starts) (x .ids) (x .offsets) (x .spans) (length remap) (length words)
   formed = holds-well-formed (x .starts) (x .ids) (x .offsets) (x .spans) (length remap) (length words) (cache setting pieces words) (b .equally-many) held
 
-  pub in-step : {y : Slices} (r : Retained) → Call (length words) remap x y r → Pruned setting (survivors remap pieces) words x y r
+  pub in-step : {y : Results} (r : Retained) → Call (length words) remap x y r → Pruned setting (survivors remap pieces) words x y r
   in-step {y} (Edges count) call =
       record { count = count; answer = refl; afresh = subst (λ (ls : List (List (List Edge))). Holds ls (x .offsets) (x .starts) (x .ids) (x .spans) (y .offsets) (y .starts) (y .ids) (y .spans) count) (in-step-once setting m d l words) (call .2 (cache setting pieces words) held) }
   in-step {y} (Refused r) call = absurd (never r (call .0))
@@ -99,11 +94,11 @@ module _ (setting : ℕ) {remap : List ℕ} {pieces : List (List ℕ)} (m : Rema
       never r (bad-remap f low) = not-both remap _ m low
 
 -- ---- "after each of any number of prunings (survivors keep their order)"
-pub data Calls (words : ℕ) : List (List ℕ) → Slices → Slices → Type 0 where
-  no-call : {x : Slices} → Calls words [] x x
-  one-call : {remap : List ℕ} {remaps : List (List ℕ)} {x y z : Slices} (r : Retained) → Call words remap x y r → Calls words remaps y z → Calls words (remap ∷ remaps) x z
+pub data Calls (words : ℕ) : List (List ℕ) → Results → Results → Type 0 where
+  no-call : {x : Results} → Calls words [] x x
+  one-call : {remap : List ℕ} {remaps : List (List ℕ)} {x y z : Results} (r : Retained) → Call words remap x y r → Calls words remaps y z → Calls words (remap ∷ remaps) x z
 
-pub in-step-always : (setting : ℕ) {pieces remaps : List (List ℕ)} → Distinct pieces → Prunings pieces remaps → (words : List (List ℕ)) {x y : Slices} → Calls (length words) remaps x y
+pub in-step-always : (setting : ℕ) {pieces remaps : List (List ℕ)} → Distinct pieces → Prunings pieces remaps → (words : List (List ℕ)) {x y : Results} → Calls (length words) remaps x y
     → Built setting pieces words x → Built setting (survivorsOf remaps pieces) words y
 in-step-always setting d no-pruning words no-call b = b
 in-step-always setting d (one-more {pieces} {remap} {remaps} m l s) words (one-call {x = x} {y = y} r call calls) b =
@@ -111,13 +106,16 @@ in-step-always setting d (one-more {pieces} {remap} {remaps} m l s) words (one-c
     in-step-always setting (still-distinct remap d) s words calls (still-built setting (survivors remap pieces) words x y (p .count) (b .equally-many) (p .afresh))
 
 -- ---- no second outcome
+pub same-results : {y z : Results} → y .offsets ≡ z .offsets → y .starts ≡ z .starts → y .ids ≡ z .ids → y .spans ≡ z .spans → y ≡ z
+same-results o s i p = λ j. record { offsets = o j; starts = s j; ids = i j; spans = p j }
+
 lowest-one : (remap : List ℕ) (a b : ℕ) → Lowest 0 remap a → Lowest 0 remap b → a ≡ b
 lowest-one remap a b p q = ap place (sym (remap-refused remap a .1 p) ∙ remap-refused remap b .1 q)
   where
     place : Remapped → ℕ
     place r = placeOf (reason r)
 
-module _ (words : ℕ) (remap : List ℕ) (x : Slices) where
+module _ (words : ℕ) (remap : List ℕ) (x : Results) where
   one-why : (r s : Refusal) → Why (x .offsets) (x .starts) (x .ids) (x .spans) words remap r → Why (x .offsets) (x .starts) (x .ids) (x .spans) words remap s → r ≡ s
   one-why r s (bad-lattice {word = w} p) (bad-lattice {word = v} q) = ap wordOf (one-answer (x .starts) (x .ids) (x .offsets) (x .spans) (length remap) words (BadAt w) (BadAt v) p q)
     where
@@ -132,19 +130,16 @@ module _ (words : ℕ) (remap : List ℕ) (x : Slices) where
   well r (bad-lattice p) formed m = p .bad (formed _ (p .within))
   well r (bad-remap f p) formed m = not-both remap _ m p
 
-  same-slices : {y z : Slices} → y .offsets ≡ z .offsets → y .starts ≡ z .starts → y .ids ≡ z .ids → y .spans ≡ z .spans → y ≡ z
-  same-slices o s i p = λ j. record { offsets = o j; starts = s j; ids = i j; spans = p j }
-
-  pub no-second : {y z : Slices} (r s : Retained) → Call words remap x y r → Call words remap x z s → (y ≡ z) × (r ≡ s)
+  pub no-second : {y z : Results} (r s : Retained) → Call words remap x y r → Call words remap x z s → (y ≡ z) × (r ≡ s)
   no-second (Edges a) (Edges b) p q =
       let held = well-formed-holds (x .starts) (x .ids) (x .offsets) (x .spans) (length remap) words (p .0) in
       let lattices = readBack (x .starts) (x .ids) (x .offsets) (x .spans) (length remap) words in
       let h = p .2 lattices held in
       let k = q .2 lattices held in
-      (same-slices (one-outcome (h .offsets-are) (k .offsets-are)) (one-outcome (h .starts-are) (k .starts-are)) (one-outcome (h .ids-are) (k .ids-are)) (one-outcome (h .spans-are) (k .spans-are)), ap Edges (one-outcome (h .edges) (k .edges)))
+      (same-results (one-outcome (h .offsets-are) (k .offsets-are)) (one-outcome (h .starts-are) (k .starts-are)) (one-outcome (h .ids-are) (k .ids-are)) (one-outcome (h .spans-are) (k .spans-are)), ap Edges (one-outcome (h .edges) (k .edges)))
   no-second (Edges a) (Refused s) p q = absurd (well s (q .0) (p .0) (p .1))
   no-second (Refused r) (Edges b) p q = absurd (well r (p .0) (q .0) (q .1))
   no-second (Refused r) (Refused s) p q =
       let h = p .1 in
       let k = q .1 in
-      (same-slices (one-outcome (h .offsets-kept) (k .offsets-kept)) (one-outcome (h .starts-kept) (k .starts-kept)) (one-outcome (h .ids-kept) (k .ids-kept)) (one-outcome (h .spans-kept) (k .spans-kept)), ap Refused (one-why r s (p .0) (q .0)))
+      (same-results (one-outcome (h .offsets-kept) (k .offsets-kept)) (one-outcome (h .starts-kept) (k .starts-kept)) (one-outcome (h .ids-kept) (k .ids-kept)) (one-outcome (h .spans-kept) (k .spans-kept)), ap Refused (one-why r s (p .0) (q .0)))

@@ -11,7 +11,7 @@ use Rattle.lattice.proofs.Joined.{offsets-long}
 use Rattle.formed.specs.declared.Span.{Span}
 use Rattle.formed.specs.Formed.{Inside, Formed}
 use Rattle.formed.specs.Held.{Rows}
-use Rattle.formed.proofs.Ranges.{between-nought, from-here}
+use Rattle.laws.proofs.Ranges.{between-nought, from-here}
 use Rattle.formed.proofs.Theorems.{holds-well-formed}
 use Rattle.cached.specs.Cached.{spanAt, edgesBefore, offsetsBefore, WordFormed}
 use Rattle.cached.specs.Held.{Lattices}

@@ -5,7 +5,7 @@ use mathlib.Core.List.{List}
 use Prim.Native.Nat.{ℕ, zero, suc, _+_, _-_, _<_}
 use native.Mathlib.Omega.{arith}
 use Rattle.formed.specs.declared.Span.{Span}
-use Rattle.formed.specs.Formed.{Says}
+use Rattle.laws.specs.Tests.{Says}
 use Rattle.cached.specs.Cached.{spanAt, edgesBefore, offsetsBefore}
 
 pub same-span : {from to at n from' to' at' n' : ℕ} → from ≡ from' → to ≡ to' → at ≡ at' → n ≡ n' → _≡_ {A = Span} (record { from = from; to = to; at = at; n = n }) (record { from = from'; to = to'; at = at'; n = n' })

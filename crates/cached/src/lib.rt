@@ -10,7 +10,7 @@ use formed::read;
 ghost use mathlib.Core.Path.{_≡_};
 ghost use Prim.Native.Nat.{_≤_, _+_, _*_, _<_};
 ghost use lib.ListN.{length};
-ghost use Rattle.formed.specs.Formed.{Says};
+ghost use Rattle.laws.specs.Tests.{Says};
 ghost use Rattle.cached.specs.Cached.{spanAt, edgesBefore, offsetsBefore, Present, WordFormed, Answers};
 
 // A cache's words are all as they should be, or the first that is not.

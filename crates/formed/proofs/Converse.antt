@@ -12,7 +12,7 @@ use Rattle.formed.specs.declared.Span.{Span}
 use Rattle.formed.specs.Formed.{EdgeFormed, EndFormed, Formed, offset}
 use Rattle.formed.specs.Held.{After, Row, Rows, Held}
 use Rattle.formed.proofs.Edges.{first-offset}
-use Rattle.formed.proofs.Ranges.{Between, between-nought, from-here}
+use Rattle.laws.proofs.Ranges.{Between, between-nought, from-here}
 use Rattle.formed.proofs.Readback.{edgesAt, rowAt, rowsAt, Rising, rises, length-edges, rows-joined}
 use Rattle.formed.proofs.Unique.{begins, next-offset}
 

@@ -1,5 +1,3 @@
-pub mod Tests
-pub mod Ranges
 pub mod Edges
 pub mod Readback
 pub mod Sound

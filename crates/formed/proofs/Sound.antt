@@ -8,7 +8,7 @@ use lib.ListN.{getD}
 use Rattle.formed.specs.declared.Span.{Span}
 use Rattle.formed.specs.Formed.{EdgeFormed, EndFormed, offset}
 use Rattle.formed.specs.Held.{After, Row, Rows}
-use Rattle.formed.proofs.Ranges.{Between}
+use Rattle.laws.proofs.Ranges.{Between}
 use Rattle.formed.proofs.Readback.{edgesAt, rowAt, rowsAt}
 
 module _ (starts ids : List ℕ) (pieces : ℕ) where

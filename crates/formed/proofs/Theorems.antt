@@ -11,7 +11,8 @@ use lib.Seq.{slice}
 use Rattle.lattice.specs.Lattice.{Edge, lattice}
 use Rattle.lattice.specs.Layout.{joined, offsetsFrom, offsets}
 use Rattle.formed.specs.declared.Span.{Span}
-use Rattle.formed.specs.Formed.{Says, Inside, Formed, offset}
+use Rattle.laws.specs.Tests.{Says}
+use Rattle.formed.specs.Formed.{Inside, Formed, offset}
 use Rattle.formed.specs.Held.{Held}
 use Rattle.formed.proofs.Readback.{edgesAt, rowsAt, Rising, length-rows, rows-joined, rows-offsets, edges-slice}
 use Rattle.formed.proofs.Sound.{rows}

@@ -1,15 +1,9 @@
 -- When a lattice in slices is well formed: document 01, "A lattice is well formed when". Definitions only.
 use mathlib.Core.Path.{_≡_}
-use mathlib.Core.Bool.{Bool, true, false}
 use mathlib.Core.List.{List}
 use Prim.Native.Nat.{ℕ, _+_, _-_, _≤_, _<_}
 use lib.ListN.{length, getD}
 use Rattle.formed.specs.declared.Span.{Span}
-
--- a test's answer is whether P holds
-abbrev pub Says : Bool → Type 0 → Type 0
-Says true P = P
-Says false P = P → ⊥
 
 -- "starts and ids are equally many"; the span is inside the slices; "it has n+2 offsets"
 pub record Inside (starts ids ends : List ℕ) (span : Span) : Type 0 where

@@ -7,7 +7,8 @@
 ghost use mathlib.Core.Path.{_≡_};
 ghost use Prim.Native.Nat.{_+_, _≤_, _<_};
 ghost use lib.ListN.{length, getD};
-ghost use Rattle.formed.specs.Formed.{Says, Inside, EdgeFormed, EndFormed, Formed};
+ghost use Rattle.laws.specs.Tests.{Says};
+ghost use Rattle.formed.specs.Formed.{Inside, EdgeFormed, EndFormed, Formed};
 
 // Where one word's lattice stands in the slices of a cache: its edges from `from` up to, not with, `to`; its offsets from
 // `at` on; and its number of characters.

@@ -3,4 +3,6 @@ pub mod Survivors
 pub mod Sifted
 pub mod Edges
 pub mod Joined
+pub mod Fronts
+pub mod Flat
 pub mod Theorems

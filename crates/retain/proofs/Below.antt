@@ -6,8 +6,8 @@ use native.Mathlib.Nat.{le-of-suc-le-suc, not-suc-le-zero}
 use native.Mathlib.Omega.{arith}
 use lib.ListN.{length, getD, drop, length-map, List·getD-append}
 use Rattle.lattice.specs.Lattice.{Edge}
-use Rattle.retain.specs.Retain.{over}
-use Rattle.retain.proofs.Flat.{edges}
+use Rattle.lattice.specs.Written.{over}
+use Rattle.lattice.proofs.Flat.{edges}
 
 pub data Below (n : ℕ) : List Edge → Type 0 where
   no-edge : Below n []

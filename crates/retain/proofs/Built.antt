@@ -10,10 +10,11 @@ use Rattle.lattice.specs.Lattice.{Edge, between, edgeId, edge, starting, ending
 use Rattle.lattice.specs.Layout.{joined}
 use Rattle.lattice.proofs.Spelling.{found}
 use Rattle.lattice.proofs.Edges.{within}
-use Rattle.retain.specs.Retain.{Begins, Laid}
+use Rattle.lattice.specs.Written.{Begins}
+use Rattle.retain.specs.Retain.{Laid}
 use Rattle.retain.proofs.Below.{Below, no-edge, one-more, both, entries-below}
 use Rattle.lattice.proofs.Joined.{joined-append}
-use Rattle.retain.proofs.Flat.{edges}
+use Rattle.lattice.proofs.Flat.{edges}
 
 -- ---- those of the edges that pieces spell
 in-edge : (n s : ℕ) (o : Option ℕ) → ((k : ℕ) → o ≡ some k → k < n) → Below n (edge s o)

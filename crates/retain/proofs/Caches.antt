@@ -9,10 +9,11 @@ use lib.Seq.{split-at, take-suc, take-all, length-take-le}
 use Rattle.lattice.specs.Lattice.{Edge}
 use Rattle.lattice.specs.Pruning.{sift, retained}
 use Rattle.lattice.specs.Layout.{spansFrom}
-use Rattle.retain.specs.Retain.{over, Laid, Written}
+use Rattle.lattice.specs.Written.{over, Written}
+use Rattle.retain.specs.Retain.{Laid}
 use Rattle.retain.specs.Moves.{Span, Shifted}
-use Rattle.retain.proofs.Fronts.{begin-long, over-long}
-use Rattle.retain.proofs.Flat.{edges, ends, spans-long}
+use Rattle.lattice.proofs.Fronts.{begin-long, over-long}
+use Rattle.lattice.proofs.Flat.{edges, ends, spans-long}
 use Rattle.retain.proofs.Sifted.{ends-retained}
 use Rattle.retain.proofs.Turns.{Turn, turn}
 use Rattle.retain.proofs.Shifts.{fewer, ready, more}

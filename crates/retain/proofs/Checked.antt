@@ -9,10 +9,11 @@ use Rattle.lattice.specs.Lattice.{Edge}
 use Rattle.lattice.specs.Layout.{joined}
 use Rattle.formed.specs.Held.{Row, Rows}
 use Rattle.cached.specs.Held.{Lattices, Held}
-use Rattle.retain.specs.Retain.{over, Laid}
+use Rattle.lattice.specs.Written.{over}
+use Rattle.retain.specs.Retain.{Laid}
 use Rattle.retain.proofs.Below.{Below, no-edge, one-more, both, entries-below}
 use Rattle.lattice.proofs.Joined.{joined-append}
-use Rattle.retain.proofs.Flat.{edges}
+use Rattle.lattice.proofs.Flat.{edges}
 
 begun : (l front : List ℕ) → take (length front) l ≡ front → l ≡ over front l
 begun l front e = sym (take-append-drop (length front) l) ∙ ap (λ (x : List ℕ). x ++ drop (length front) l) e

@@ -5,9 +5,9 @@ use Prim.Native.Nat.{ℕ, _+_, _-_, _≤_, _<_}
 use native.Mathlib.Omega.{arith}
 use lib.ListN.{length, take, drop, set, replicate, length-append, length-replicate, replicate-append-replicate, take-append-drop, drop-of-length-le}
 use lib.Seq.{length-take-le, take-append-seam, drop-append-seam}
-use Rattle.retain.specs.Retain.{over}
+use Rattle.lattice.specs.Written.{over}
 use Rattle.retain.specs.Cleared.{cleared}
-use Rattle.retain.proofs.Fronts.{over-long, stored}
+use Rattle.lattice.proofs.Fronts.{over-long, stored}
 
 -- zeros from one slot up to another
 abbrev pub zeroed : ℕ → ℕ → List ℕ → List ℕ

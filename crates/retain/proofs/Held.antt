@@ -6,11 +6,11 @@ use native.Mathlib.Omega.{arith}
 use lib.ListN.{length, drop, replicate, length-append, length-map}
 use Rattle.lattice.specs.Lattice.{Edge}
 use Rattle.lattice.specs.Layout.{flat}
-use Rattle.retain.specs.Retain.{over}
+use Rattle.lattice.specs.Written.{over}
 use Rattle.retain.specs.Cleared.{cleared}
 use Rattle.retain.specs.Calls.{Slices, Holds, Leaves, clearedAt}
-use Rattle.retain.proofs.Fronts.{begins}
-use Rattle.retain.proofs.Flat.{edges}
+use Rattle.lattice.proofs.Fronts.{begins}
+use Rattle.lattice.proofs.Flat.{edges}
 use Rattle.retain.proofs.Cleared.{cleared-front, cleared-begins}
 
 pub holds : {lattices : List (List (List Edge))} {x y : Slices} {count : ℕ} → Leaves lattices x y count → Holds lattices y

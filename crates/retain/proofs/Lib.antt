@@ -1,8 +1,6 @@
 pub mod Moving
 pub mod Offsets
 pub mod Spans
-pub mod Fronts
-pub mod Flat
 pub mod Sifted
 pub mod Turns
 pub mod Shifts

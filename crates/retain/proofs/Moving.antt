@@ -8,13 +8,10 @@ use lib.Dec.{eqb}
 use lib.ListN.{length, getD, set, length-append, length-map}
 use lib.Seq.{sets, length-sets, getD-set-other}
 use Rattle.lattice.specs.Pruning.{gone}
+use Rattle.lattice.proofs.Fronts.{sets-append}
 use Rattle.retain.specs.Moves.{newId, stay, kept, keptTo, Moved, Run, Spot}
 
 -- ---- stores
-sets-append : {A : Type 0} (l : List A) (i : ℕ) (xs ys : List A) → sets l i (xs ++ ys) ≡ sets (sets l i xs) (i + length xs) ys
-sets-append l i [] ys = let e : i ≡ i + 0 = omega arith in ap (λ (k : ℕ). sets l k ys) e
-sets-append l i (x ∷ xs) ys = let e : suc i + length xs ≡ i + suc (length xs) = omega arith in sets-append (set l i x) (suc i) xs ys ∙ ap (λ (k : ℕ). sets (sets (set l i x) (suc i) xs) k ys) e
-
 after : {A : Type 0} (l : List A) (i : ℕ) (vs : List A) (k : ℕ) (d : A) → i + length vs ≤ k → getD (sets l i vs) k d ≡ getD l k d
 after l i [] k d h = refl
 after l i (v ∷ vs) k d h = after (set l i v) (suc i) vs k d (omega arith) ∙ getD-set-other l i k v d (omega arith)

@@ -8,11 +8,11 @@ use lib.Seq.{sets, take-at, getD-drop}
 use Rattle.lattice.specs.Lattice.{Edge}
 use Rattle.lattice.specs.Pruning.{sift, retained}
 use Rattle.lattice.specs.Layout.{joined, offsets, edgeCount, charCount, spansFrom}
-use Rattle.retain.specs.Retain.{over, Written}
+use Rattle.lattice.specs.Written.{over, Written}
 use Rattle.retain.specs.Moves.{newId, keptTo, Moved, Word, Span, Shifted}
-use Rattle.retain.proofs.Fronts.{over-long, behind, at-behind, stored, placed, renewed-span}
+use Rattle.lattice.proofs.Fronts.{over-long, behind, at-behind, stored, placed, renewed-span}
 use Rattle.lattice.proofs.Joined.{offsets-long}
-use Rattle.retain.proofs.Flat.{edges, ends, spans-long, first-is-0, rises, last-is-count}
+use Rattle.lattice.proofs.Flat.{edges, ends, spans-long, first-is-0, rises, last-is-count}
 use Rattle.retain.proofs.Sifted.{sift-joined, edges-retained, no-more, ends-retained, Held, starts-sifted, ids-sifted, offsets-sifted}
 use Rattle.retain.proofs.Turns.{spanOf, Turn, column-more, ends-more, spans-more}
 

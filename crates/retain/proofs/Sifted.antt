@@ -14,7 +14,7 @@ use Rattle.lattice.specs.Layout.{joined, offsetsFrom, offsets}
 use Rattle.retain.specs.Moves.{newId, stay, kept, keptTo, rank}
 use Rattle.retain.proofs.Moving.{kept-front}
 use Rattle.lattice.proofs.Joined.{joined-append, offsets-long}
-use Rattle.retain.proofs.Flat.{edges, ends}
+use Rattle.lattice.proofs.Flat.{edges, ends}
 
 -- ---- sifting
 pub sift-append : (m : List ℕ) (a b : List Edge) → sift m (a ++ b) ≡ sift m a ++ sift m b

@@ -8,9 +8,10 @@ use lib.ListN.{length, getD, drop, length-append, length-map}
 use Rattle.lattice.specs.Lattice.{Edge}
 use Rattle.lattice.specs.Pruning.{sift, retained}
 use Rattle.lattice.specs.Layout.{joined, offsets, edgeCount, charCount, spansFrom}
-use Rattle.retain.specs.Retain.{over, Laid}
-use Rattle.retain.proofs.Fronts.{begin-long, then}
-use Rattle.retain.proofs.Flat.{edges, ends, edges-append, ends-append, spans-append, spans-long}
+use Rattle.lattice.specs.Written.{over}
+use Rattle.retain.specs.Retain.{Laid}
+use Rattle.lattice.proofs.Fronts.{begin-long, then}
+use Rattle.lattice.proofs.Flat.{edges, ends, edges-append, ends-append, spans-append, spans-long}
 use Rattle.retain.proofs.Sifted.{sift-joined, Held}
 
 -- a word's four numbers, where its edges begin at e and its offsets at d

@@ -3,7 +3,8 @@ use mathlib.Core.List.{List, [], _∷_}
 use Prim.Native.Nat.{ℕ}
 use Rattle.lattice.specs.Lattice.{Edge}
 use Rattle.lattice.specs.Pruning.{retained}
-use Rattle.retain.specs.Retain.{Begins, Laid, Written}
+use Rattle.lattice.specs.Written.{Begins, Written}
+use Rattle.retain.specs.Retain.{Laid}
 use Rattle.retain.specs.Cleared.{cleared}
 
 -- what the four slices hold

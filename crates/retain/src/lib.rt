@@ -21,7 +21,8 @@ ghost use Rattle.lattice.specs.Pruning.{retained};
 ghost use Rattle.retain.specs.Moves.{stay, keptTo, rank, Spot, Run, Moved, End, Word, Span, Shifted};
 ghost use Rattle.retain.specs.Remaps.{checked};
 ghost use Rattle.retain.specs.Cleared.{cleared};
-ghost use Rattle.retain.specs.Retain.{Cached, Laid, Written};
+ghost use Rattle.lattice.specs.Written.{Written};
+ghost use Rattle.retain.specs.Retain.{Cached, Laid};
 
 // `u32::MAX`: the piece is gone.
 const GONE: u32 = 0xffff_ffff;

@@ -1,4 +1,4 @@
--- Each way out of `grow`, and the turns of the loop of `spell`.
+-- Each way out of `grow`, and the turns of the loop of `spell`, character by character.
 -- Assumes nothing.
 use mathlib.Core.Path.{_≡_, refl, sym, ap, _∙_, subst}
 use mathlib.Core.Bool.{cond}
@@ -12,9 +12,9 @@ use Rattle.places.specs.Map.{insertedIn, putIn}
 use Rattle.places.specs.declared.Inserted.the-variants.{Old, New, NoRoom}
 use Rattle.places.proofs.Theorems.{key-some, room-none}
 use Rattle.places.proofs.Answers.{Made, answered, found-range, made-range}
-use Rattle.trie.specs.Prefixes.{back, has, joined}
+use Rattle.trie.specs.Prefixes.{back, joined}
 use Rattle.trie.specs.Trie.{isNode, Trie}
-use Rattle.trie.specs.Contracts.{Next, Grew, Stuck, Grows, Spelling, Path, Full, Reached}
+use Rattle.trie.specs.Contracts.{Next, Grew, Stuck, Grows, Path, Full, Reached}
 use Rattle.trie.specs.declared.Spelt.{Spelt as Answer}
 use Rattle.trie.specs.declared.Spelt.the-variants.{Node as At, NoRoom as Unspelt}
 use Rattle.trie.proofs.Equal.{back-small, joined-longer}
@@ -93,7 +93,7 @@ pub record Spelt (keys chars : List ℕ) (count : ℕ) (after : List ℕ) (k mad
 pub spelt-none : (keys chars : List ℕ) (count : ℕ) → Spelt keys chars count keys 0 count 0
 spelt-none keys chars count = record { long = refl; near = omega arith; low = λ l. l; high = omega arith; path = λ ends prefixes pieces t n. record { trie = t; counted = n; leads = refl } }
 
-module _ {keys chars : List ℕ} {count : ℕ} {after : List ℕ} {k made node : ℕ} (x : Spelling keys chars) (s : Spelt keys chars count after k made node) where
+module _ {keys chars : List ℕ} {count : ℕ} {after : List ℕ} {k made node : ℕ} (small : (i : ℕ) → i < length chars → getD chars i 0 < 4294967295) (s : Spelt keys chars count after k made node) where
   pub spelt-all : length chars ≤ k → Reached keys chars count after node made
   spelt-all l =
       let e : k ≡ length chars = omega (arith, s .near) in
@@ -114,14 +114,14 @@ module _ {keys chars : List ℕ} {count : ℕ} {after : List ℕ} {k made node :
           high = omega (arith, g .high, s .long);
           path = λ ends prefixes pieces t n.
               let p = s .path ends prefixes pieces t n in
-              let w = g .next (back chars k) ends (joined prefixes chars k) pieces (p .trie) (p .counted) (back-small chars k (x .small) (s .near)) (p .leads) in
+              let w = g .next (back chars k) ends (joined prefixes chars k) pieces (p .trie) (p .counted) (back-small chars k small (s .near)) (p .leads) in
               subst (λ (i : ℕ). Path after′ chars i made′ node′ ends prefixes pieces) (sym (add-one k)) (record { trie = w .trie; counted = w .counted; leads = w .leads });
         }
 
     pub spelt-full : (after′ : List ℕ) → Stuck after node (getD chars k 0) made after′ → (ends : List ℕ) (prefixes pieces : List (List ℕ)) → Trie keys ends prefixes pieces → count ≡ length prefixes → Full keys chars after′ ends prefixes pieces
     spelt-full after′ g ends prefixes pieces t n =
         let p = s .path ends prefixes pieces t n in
-        let (a, b) = g .new (back chars k) ends (joined prefixes chars k) pieces (p .trie) (p .counted) (back-small chars k (x .small) (s .near)) (p .leads) in
+        let (a, b) = g .new (back chars k) ends (joined prefixes chars k) pieces (p .trie) (p .counted) (back-small chars k small (s .near)) (p .leads) in
         let y : length (joined prefixes chars (suc k)) ≡ suc (length (joined prefixes chars k)) = ap (λ b. length (cond b (joined prefixes chars k) (back chars (suc k) ∷ joined prefixes chars k))) a in
         let z = joined-longer prefixes chars (suc k) (length chars - suc k) in
         let e : length chars - suc k + suc k ≡ length chars = omega arith in

@@ -3,6 +3,9 @@ pub mod Equal
 pub mod Nodes
 pub mod Growing
 pub mod Grown
+pub mod Spelling
 pub mod Adding
 pub mod Walked
 pub mod Theorems
+pub mod Same
+pub mod Indexing

@@ -2,7 +2,7 @@
 -- Assumes nothing.
 use mathlib.Core.Path.{_≡_, refl, sym, ap, _∙_, subst}
 use mathlib.Core.Logic.{_⊎_, inl, inr, ⊎-elim}
-use mathlib.Core.Bool.{true, false, cond}
+use mathlib.Core.Bool.{true, cond}
 use mathlib.Core.List.{List, [], _∷_}
 use Prim.Native.Nat.{ℕ, zero, suc, _+_, _-_, _/_, _≤_, _<_}
 use native.Mathlib.Nat.{lt-irrefl}
@@ -15,16 +15,21 @@ use Rattle.places.specs.Walk.{keyOf}
 use Rattle.places.specs.Map.{foundIn}
 use Rattle.places.specs.Entries.{zeros}
 use Rattle.places.specs.declared.Found.{Found}
-use Rattle.places.specs.declared.Found.the-variants.{Nothing}
+use Rattle.places.specs.declared.Found.the-variants.{Node, Nothing}
 use Rattle.places.proofs.Filled.{zeros-at}
 use Rattle.places.proofs.Theorems.{key-some, holds-none, absent-unfound}
 use Rattle.trie.specs.Prefixes.{back, whole, equal, has, with, joined, prefixesOf, idOf}
+use Rattle.trie.specs.Listed.{newest, Begins, Once, Is, is-newest, is-older, Last}
 use Rattle.trie.specs.Trie.{step, nodeAt, isNode, Trie}
-use Rattle.trie.specs.Contracts.{More, AddsTo, Walks}
+use Rattle.trie.specs.Contracts.{More, AddsTo}
+use Rattle.trie.specs.Index.{Index, Indexes}
 use Rattle.trie.specs.declared.Added.{Added}
 use Rattle.trie.specs.declared.Added.the-variants.{New, Again, NoRoom}
+use Rattle.trie.specs.declared.Indexed.{Indexed}
+use Rattle.trie.specs.declared.Indexed.the-variants.{Nodes, NoRoom as Unindexed}
 use Rattle.trie.proofs.Equal.{equal-true, equal-self, equal-same, has-tail, split, either, distinct, contrary, with-has}
 use Rattle.trie.proofs.Nodes.{child-of}
+use Rattle.trie.proofs.Walked.{step-on, step-off}
 
 -- Zero slices hold no piece, if the root is at most half of the places.
 module _ (n : ℕ) where
@@ -52,14 +57,6 @@ module _ (n : ℕ) where
 
 -- The prefixes of pieces: a list has each of them, and nothing else, once. So its length is the number of distinct non-empty
 -- prefixes, and the nodes are these and the root.
-abbrev pub Begins : List (List ℕ) → List ℕ → Type 0
-Begins [] q = ⊥
-Begins (w ∷ older) q = ((k : ℕ) × (k < length w) × (back w (suc k) ≡ q)) ⊎ Begins older q
-
-abbrev pub Once : List (List ℕ) → Type 0
-Once [] = Unit {0}
-Once (p ∷ ps) = (has ps p ≡ false) × Once ps
-
 with-once : (ps : List (List ℕ)) (q : List ℕ) → Once ps → Once (with ps q)
 with-once ps q o = cond-cases Once (has ps q) ps (q ∷ ps) (λ _. o) (λ e. (e, o))
 
@@ -140,25 +137,16 @@ back-same v w (suc k) h =
 pub back-whole : (w : List ℕ) (k : ℕ) → k ≤ length w → back w k ≡ whole (take k w)
 back-whole w k h = back-same w (take k w) k (λ i l. sym (getD-take k w i 0 l)) ∙ ap (back (take k w)) (sym (length-take-le k w h))
 
--- Piece i is v: of pieces that are listed the newest first, a piece's id is the number of older ones, its position in the list.
-pub data Is : List (List ℕ) → ℕ → List ℕ → Type 0 where
-  newest : {v : List ℕ} {older : List (List ℕ)} → Is (v ∷ older) (length older) v
-  older : {w v : List ℕ} {rest : List (List ℕ)} {i : ℕ} → Is rest i v → Is (w ∷ rest) i v
-
+-- Which piece has a spelling.
 is-below : {pieces : List (List ℕ)} {i : ℕ} {v : List ℕ} → Is pieces i v → i < length pieces
-is-below newest = omega arith
-is-below (older s) = omega (arith, is-below s)
+is-below is-newest = omega arith
+is-below (is-older s) = omega (arith, is-below s)
 
 peel : {w v : List ℕ} {rest : List (List ℕ)} {j : ℕ} → Is (w ∷ rest) j v → ((w ≡ v) × (j ≡ length rest)) ⊎ Is rest j v
-peel newest = inl (refl, refl)
-peel (older s) = inr s
+peel is-newest = inl (refl, refl)
+peel (is-older s) = inr s
 
--- v has the id k, less 1: it is the last piece that is v, or there is none
-pub record Last (pieces : List (List ℕ)) (v : List ℕ) (k : ℕ) : Type 0 where
-  pub is : (i : ℕ) → k ≡ i + 1 → Is pieces i v
-  pub later : (j : ℕ) → k ≤ j → Is pieces j v → ⊥
-
--- What a walk writes for a spelling is the id plus 1 of the last piece that is spelt so, or 0 where there is none.
+-- What a trie holds for a spelling is the id plus 1 of the last piece that is spelt so, or 0 where there is none.
 pub id-last : (pieces : List (List ℕ)) (v : List ℕ) → Last pieces v (idOf pieces (whole v))
 id-last [] v = record { is = λ i e. absurd (lt-irrefl 0 (omega arith)); later = λ j h s. lt-irrefl 0 (omega (arith, is-below s)) }
 id-last (w ∷ rest) v =
@@ -167,11 +155,11 @@ id-last (w ∷ rest) v =
     (λ t.
     let e : w ≡ v = whole-one w v (equal-true (whole w) (whole v) t) in
     record {
-      is = λ i x. let z : length rest ≡ i = omega arith in subst (λ (k : ℕ). Is (w ∷ rest) k v) z (subst (λ (u : List ℕ). Is (w ∷ rest) (length rest) u) e newest);
+      is = λ i x. let z : length rest ≡ i = omega arith in subst (λ (k : ℕ). Is (w ∷ rest) k v) z (subst (λ (u : List ℕ). Is (w ∷ rest) (length rest) u) e is-newest);
       later = λ j h s. lt-irrefl j (omega (arith, is-below s));
     })
     (λ t. record {
-      is = λ i x. older (o .is i x);
+      is = λ i x. is-older (o .is i x);
       later = λ j h s. ⊎-elim (λ (a, b). contrary (equal-same (ap whole a)) t) (λ a. o .later j h a) (peel s);
     })
 
@@ -200,45 +188,33 @@ module _ (keys ends chars : List ℕ) (id count : ℕ) (keys′ ends′ : List �
   pub told-again : (i made : ℕ) → Answers (Again i made) → 0 < length chars → Last pieces chars (i + 1)
   told-again i made m l = subst (Last pieces chars) (sym (m .told l)) (id-last pieces chars)
 
--- A row has, for each beginning of the characters, the last piece that is spelt by it; and where it ends, no piece is spelt by
--- so many characters.
-module _ (keys ends chars row after : List ℕ) (k : ℕ) (w : Walks keys ends chars row after k) (prefixes pieces : List (List ℕ)) (t : Trie keys ends prefixes pieces) (l : length row ≤ length chars) where
-  pub row-last : (j : ℕ) → j < k → Last pieces (take (suc j) chars) (getD after j 0)
-  row-last j h =
-      let n = w .walked .near in
-      let e : getD after j 0 ≡ idOf pieces (whole (take (suc j) chars)) = w .walked .each prefixes pieces t j h ∙ ap (idOf pieces) (back-whole chars (suc j) (omega arith)) in
-      subst (Last pieces (take (suc j) chars)) (sym e) (id-last pieces (take (suc j) chars))
+-- At each step of a walk stands the last piece that is spelt by the characters so far; and where the walk stops, no piece is
+-- spelt by more of them.
+module _ {keys ends : List ℕ} {prefixes pieces : List (List ℕ)} (t : Trie keys ends prefixes pieces) (w : List ℕ) (small : (i : ℕ) → i < length w → getD w i 0 < 4294967295) {k node : ℕ} (leads : nodeAt keys (back w k) ≡ Node node) (l : k < length w) where
+  pub step-last : {m : ℕ} → foundIn keys (keyOf node (getD w k 0)) ≡ Node m → Last pieces (take (suc k) w) (getD ends (m - 1) 0)
+  step-last {m} f =
+      let e : getD ends (m - 1) 0 ≡ idOf pieces (whole (take (suc k) w)) = step-on t w small leads l f .names ∙ ap (idOf pieces) (back-whole w (suc k) (omega arith)) in
+      subst (Last pieces (take (suc k) w)) (sym e) (id-last pieces (take (suc k) w))
 
-  pub row-end : (i j : ℕ) → k ≤ j → j < length row → Is pieces i (take (suc j) chars) → ⊥
-  row-end i j h m s =
-      let e : idOf pieces (whole (take (suc j) chars)) ≡ 0 = ap (idOf pieces) (sym (back-whole chars (suc j) (omega arith))) ∙ w .done prefixes pieces t j h m in
-      subst (Last pieces (take (suc j) chars)) e (id-last pieces (take (suc j) chars)) .later i (omega arith) s
+  pub step-end : foundIn keys (keyOf node (getD w k 0)) ≡ Nothing → (i j : ℕ) → k ≤ j → j < length w → Is pieces i (take (suc j) w) → ⊥
+  step-end f i j h m s =
+      let e : idOf pieces (whole (take (suc j) w)) ≡ 0 = ap (idOf pieces) (sym (back-whole w (suc j) (omega arith))) ∙ step-off t w small leads l f j h m in
+      subst (Last pieces (take (suc j) w)) e (id-last pieces (take (suc j) w)) .later i (omega arith) s
 
--- No second outcome of a walk fits.
-module _ (keys ends chars row : List ℕ) (prefixes pieces : List (List ℕ)) (t : Trie keys ends prefixes pieces) where
-  short : (after other : List ℕ) (k l : ℕ) → Walks keys ends chars row after k → Walks keys ends chars row other l → k < l → ⊥
-  short after other k l v w h =
-      let n = w .walked .near in
-      contrary (w .walked .on prefixes pieces t k h) (v .stop prefixes pieces t (omega arith))
+-- An index of all pieces has room for the distinct non-empty prefixes and the root; so there is no room exactly where these
+-- are more than half of the places.
+pub index-room : {text pieces keys keys′ ends′ : List ℕ} {n : ℕ} → Index text pieces keys keys′ ends′ n → length (prefixesOf (newest text pieces)) + 1 ≤ length keys / 2
+index-room {text} {pieces} x = subst (λ (m : ℕ). length (prefixesOf (newest text pieces)) + 1 ≤ m / 2) (x .long) (x .trie .room)
 
-  pub one-walk : (after other : List ℕ) (k l : ℕ) → Walks keys ends chars row after k → Walks keys ends chars row other l → (k ≡ l) × (after ≡ other)
-  one-walk after other k l v w =
-      let e : k ≡ l = elim (decLt k l) [
-        | yes h ↦ absurd (short after other k l v w h)
-        | no h ↦ elim (decLt l k) [
-          | yes g ↦ absurd (short other after l k w v g)
-          | no g ↦ omega arith
-        ]
-      ] in (
-        e,
-        ext-getD 0 after other (v .walked .long ∙ sym (w .walked .long)) (λ i _. elim (decLt i k) [
-          | yes h ↦ v .walked .each prefixes pieces t i h ∙ sym (w .walked .each prefixes pieces t i (omega arith))
-          | no h ↦ v .walked .rest i (omega arith) ∙ sym (w .walked .rest i (omega arith))
-        ]),
-      )
+-- No second answer fits. What the slices then hold is work: it is said what it means, and not what it is.
+pub one-index : (text pieces keys keys′ ends′ keys″ ends″ : List ℕ) (r s : Indexed) → Indexes text pieces keys keys′ ends′ r → Indexes text pieces keys keys″ ends″ s → r ≡ s
+one-index text pieces keys keys′ ends′ keys″ ends″ (Nodes n) (Nodes m) x y = ap (λ (i : ℕ). Nodes i) (x .counted ∙ sym (y .counted))
+one-index text pieces keys keys′ ends′ keys″ ends″ (Nodes n) Unindexed x y = absurd (lt-irrefl (length keys / 2) (omega (arith, index-room x)))
+one-index text pieces keys keys′ ends′ keys″ ends″ Unindexed (Nodes m) x y = absurd (lt-irrefl (length keys / 2) (omega (arith, index-room y)))
+one-index text pieces keys keys′ ends′ keys″ ends″ Unindexed Unindexed x y = refl
 
--- An empty spelling is no edge: no place of a row is its own, for each stands for one character or more; and an empty piece
--- changes no other spelling's.
+-- An empty spelling is no edge: no step is its own, for each is one character or more; and an empty piece changes no other
+-- spelling's.
 pub empty-none : (pieces : List (List ℕ)) (c : ℕ) (q : List ℕ) → idOf ([] ∷ pieces) (c ∷ q) ≡ idOf pieces (c ∷ q)
 empty-none pieces c q = refl
 

@@ -1,10 +1,13 @@
 -- What the functions ask, and what they promise of every trie that the slices may be.
 -- Assumes nothing.
 use mathlib.Core.Path.{_≡_}
-use mathlib.Core.Bool.{true, false}
+use mathlib.Core.Bool.{false}
 use mathlib.Core.List.{List, _∷_}
-use Prim.Native.Nat.{ℕ, suc, _+_, _/_, _≤_, _<_}
-use lib.ListN.{length, getD}
+use Prim.Native.Nat.{ℕ, _+_, _/_, _≤_, _<_}
+use lib.ListN.{length}
+use Rattle.utf8.specs.Encode.{Spells}
+use Rattle.utf8.specs.Decode.{Right}
+use Rattle.utf8.specs.Chars.{charsOf}
 use Rattle.places.specs.declared.Found.the-variants.{Node}
 use Rattle.trie.specs.Prefixes.{back, whole, has, with, joined, idOf, Small}
 use Rattle.trie.specs.declared.Spelt.{Spelt}
@@ -36,9 +39,11 @@ abbrev pub Grows : List ℕ → ℕ → ℕ → ℕ → List ℕ → Spelt → T
 Grows keys node c count after (At m made) = Grew keys node c count after m made
 Grows keys node c count after Unspelt = Stuck keys node c count after
 
-pub record Spelling (keys chars : List ℕ) : Type 0 where
+-- a piece's bytes are UTF-8, and are read by a table of classes that is right
+pub record Spelling (keys classes piece : List ℕ) : Type 0 where
   pub few : length keys ≤ 4294967295
-  pub small : (i : ℕ) → i < length chars → getD chars i 0 < 4294967295
+  pub right : Right classes
+  pub utf8 : Spells piece (charsOf piece)
 
 -- the first k characters are spelt, in whatever trie the places were
 pub record Path (after chars : List ℕ) (k made node : ℕ) (ends : List ℕ) (prefixes pieces : List (List ℕ)) : Type 0 where
@@ -60,13 +65,13 @@ pub record Reached (keys chars : List ℕ) (count : ℕ) (after : List ℕ) (nod
   pub path : (ends : List ℕ) (prefixes pieces : List (List ℕ)) → Trie keys ends prefixes pieces → count ≡ length prefixes
       → Path after chars (length chars) made node ends prefixes pieces
 
-abbrev pub Spells : List ℕ → List ℕ → ℕ → List ℕ → Spelt → Type 0
-Spells keys chars count after (At node made) = Reached keys chars count after node made
-Spells keys chars count after Unspelt =
+abbrev pub Reaches : List ℕ → List ℕ → ℕ → List ℕ → Spelt → Type 0
+Reaches keys chars count after (At node made) = Reached keys chars count after node made
+Reaches keys chars count after Unspelt =
     (ends : List ℕ) (prefixes pieces : List (List ℕ)) → Trie keys ends prefixes pieces → count ≡ length prefixes → Full keys chars after ends prefixes pieces
 
-pub record Adding (keys ends chars : List ℕ) (id : ℕ) : Type 0 where
-  pub spelling : Spelling keys chars
+pub record Adding (keys ends classes piece : List ℕ) (id : ℕ) : Type 0 where
+  pub spelling : Spelling keys classes piece
   pub level : length ends ≡ length keys
   pub few : id < 4294967295
 
@@ -86,22 +91,3 @@ abbrev pub Adds : List ℕ → List ℕ → List ℕ → ℕ → ℕ → List �
 Adds keys ends chars id count keys′ ends′ r =
     (prefixes pieces : List (List ℕ)) → Trie keys ends prefixes pieces → count ≡ length prefixes → id ≡ length pieces
     → AddsTo keys ends chars count keys′ ends′ r prefixes pieces
-
-pub record Walking (keys ends chars row : List ℕ) : Type 0 where
-  pub spelling : Spelling keys chars
-  pub level : length ends ≡ length keys
-  pub long : length row ≤ length chars
-
--- the first k of the row are written
-pub record Walked (keys ends chars row after : List ℕ) (k : ℕ) : Type 0 where
-  pub long : length after ≡ length row
-  pub near : k ≤ length row
-  pub rest : (j : ℕ) → k ≤ j → getD after j 0 ≡ getD row j 0
-  pub on : (prefixes pieces : List (List ℕ)) → Trie keys ends prefixes pieces → (j : ℕ) → j < k → has prefixes (back chars (suc j)) ≡ true
-  pub each : (prefixes pieces : List (List ℕ)) → Trie keys ends prefixes pieces → (j : ℕ) → j < k → getD after j 0 ≡ idOf pieces (back chars (suc j))
-
--- and the next is no prefix, or the row is full; so no piece is spelt by more characters
-pub record Walks (keys ends chars row after : List ℕ) (k : ℕ) : Type 0 where
-  pub walked : Walked keys ends chars row after k
-  pub stop : (prefixes pieces : List (List ℕ)) → Trie keys ends prefixes pieces → k < length row → has prefixes (back chars (suc k)) ≡ false
-  pub done : (prefixes pieces : List (List ℕ)) → Trie keys ends prefixes pieces → (j : ℕ) → k ≤ j → j < length row → idOf pieces (back chars (suc j)) ≡ 0

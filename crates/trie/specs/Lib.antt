@@ -1,3 +1,5 @@
 pub mod Prefixes
+pub mod Listed
 pub mod Trie
 pub mod Contracts
+pub mod Index

@@ -10,7 +10,7 @@ use Rattle.places.specs.Map.{foundIn}
 use Rattle.places.specs.Entries.{Holds}
 use Rattle.places.specs.declared.Found.{Found}
 use Rattle.places.specs.declared.Found.the-variants.{Node, Nothing}
-use Rattle.trie.specs.Prefixes.{has, with, idOf, Small}
+use Rattle.trie.specs.Prefixes.{has, idOf, Small}
 
 -- one character on from a node
 abbrev pub step : List ℕ → Found → ℕ → Found

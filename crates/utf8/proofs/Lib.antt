@@ -7,4 +7,5 @@ pub mod Encoded
 pub mod Whole
 pub mod Ordered
 pub mod Spelt
+pub mod Reading
 pub mod Theorems

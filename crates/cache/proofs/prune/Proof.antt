@@ -2,11 +2,6 @@ use Rattle.cache.proofs.Bridge.{spans-fit, taken, has-room, pruned}
 use borrow.Author.Needs.{needs}
 use Rattle.cache.proofs.prune.Statement.{statement}
 use Rattle.cache.proofs.prune.Tie as tie
-use Rattle.cache.proofs.prune.Reads as reads
-use Rattle.cache.proofs.prune.Lts as lts
-use Rattle.cache.proofs.clear.Reads as clear-reads
-use Rattle.cached.proofs.offsets_before.Reads as offsets-before-reads
-use Rattle.retain.proofs.retain_core.Reads as retain-core-reads
 
 -- src/lib.rt:55:9
 offsets-before-requires : tie.Need-offsets-before-requires

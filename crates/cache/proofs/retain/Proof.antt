@@ -5,11 +5,6 @@ use Rattle.cache.proofs.Refusing.{why-remap, fits-remap}
 use borrow.Author.Needs.{needs}
 use Rattle.cache.proofs.retain.Statement.{statement}
 use Rattle.cache.proofs.retain.Tie as tie
-use Rattle.cache.proofs.retain.Reads as reads
-use Rattle.cache.proofs.retain.Lts as lts
-use Rattle.cache.proofs.prune.Reads as prune-reads
-use Rattle.cached.proofs.cached.Reads as cached-reads
-use Rattle.retain.proofs.check_remap.Reads as check-remap-reads
 
 -- src/lib.rt:72:11
 cached-requires : tie.Need-cached-requires

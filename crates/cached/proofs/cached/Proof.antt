@@ -2,13 +2,10 @@ use Prim.Native.Nat.{_≤_, _-_}
 use native.Mathlib.Omega.{arith}
 use borrow.Author.Tests.{not-true, not-false}
 use borrow.Author.Count.{below-none, below-more}
-use Rattle.formed.proofs.Tests.{said-yes, said-no}
+use Rattle.laws.proofs.Tests.{said-yes, said-no}
 use Rattle.cached.specs.Cached.{CacheFormed}
 use Rattle.cached.proofs.cached.Statement.{statement}
 use Rattle.cached.proofs.cached.Tie as tie
-use Rattle.cached.proofs.cached.Reads as reads
-use Rattle.cached.proofs.cached.Lts as lts
-use Rattle.cached.proofs.word_formed.Reads as word-formed-reads
 
 abbrev Inv-loop : tie.InvT-loop
 Inv-loop starts ids ends spans words pieces word₀ word = (word ≤ words) × CacheFormed starts ids ends spans pieces word

@@ -5,9 +5,6 @@ use Rattle.cached.proofs.Spans.{edges-of}
 use borrow.Author.Needs.{needs}
 use Rattle.cached.proofs.edges_before.Statement.{statement}
 use Rattle.cached.proofs.edges_before.Tie as tie
-use Rattle.cached.proofs.edges_before.Reads as reads
-use Rattle.cached.proofs.edges_before.Lts as lts
-use Rattle.cached.proofs.span_at.Reads as span-at-reads
 
 -- src/lib.rt:42:9
 returns : tie.Need-returns

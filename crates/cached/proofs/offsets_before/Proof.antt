@@ -6,9 +6,6 @@ use Rattle.cached.proofs.Spans.{offsets-of}
 use borrow.Author.Needs.{needs}
 use Rattle.cached.proofs.offsets_before.Statement.{statement}
 use Rattle.cached.proofs.offsets_before.Tie as tie
-use Rattle.cached.proofs.offsets_before.Reads as reads
-use Rattle.cached.proofs.offsets_before.Lts as lts
-use Rattle.cached.proofs.span_at.Reads as span-at-reads
 
 -- src/lib.rt:54:9
 returns : tie.Need-returns

@@ -2,9 +2,6 @@ use Rattle.cached.proofs.Spans.{same-span}
 use borrow.Author.Needs.{needs}
 use Rattle.cached.proofs.span_at.Statement.{statement}
 use Rattle.cached.proofs.span_at.Tie as tie
-use Rattle.cached.proofs.span_at.Reads as reads
-use Rattle.cached.proofs.span_at.Lts as lts
-use Rattle.formed.proofs.read.Reads as read-reads
 
 -- src/lib.rt:27:13
 mul-k : tie.Need-mul-k

@@ -6,12 +6,6 @@ use Rattle.cached.proofs.Spans.{says-also}
 use borrow.Author.Needs.{needs}
 use Rattle.cached.proofs.word_formed.Statement.{statement}
 use Rattle.cached.proofs.word_formed.Tie as tie
-use Rattle.cached.proofs.word_formed.Reads as reads
-use Rattle.cached.proofs.word_formed.Lts as lts
-use Rattle.cached.proofs.edges_before.Reads as edges-before-reads
-use Rattle.cached.proofs.offsets_before.Reads as offsets-before-reads
-use Rattle.cached.proofs.span_at.Reads as span-at-reads
-use Rattle.formed.proofs.formed.Reads as formed-reads
 
 -- src/lib.rt:72:9
 returns : tie.Need-returns

@@ -2,9 +2,6 @@ use native.Mathlib.Omega.{arith}
 use borrow.Author.Needs.{needs}
 use Rattle.formed.proofs.edge_formed.Statement.{statement}
 use Rattle.formed.proofs.edge_formed.Tie as tie
-use Rattle.formed.proofs.edge_formed.Reads as reads
-use Rattle.formed.proofs.edge_formed.Lts as lts
-use Rattle.formed.proofs.read.Reads as read-reads
 
 -- src/lib.rt:34:9
 read-requires : tie.Need-read-requires

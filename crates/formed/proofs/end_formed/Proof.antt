@@ -2,15 +2,11 @@ use Prim.Native.Nat.{_≤_, _-_}
 use native.Mathlib.Omega.{arith}
 use borrow.Author.Tests.{not-true, not-false}
 use Rattle.formed.specs.Formed.{EdgeFormed}
-use Rattle.formed.proofs.Tests.{said-yes, said-no}
+use Rattle.laws.proofs.Tests.{said-yes, said-no}
 use Rattle.formed.proofs.Edges.{same-first}
-use Rattle.formed.proofs.Ranges.{Between, between-none, between-more}
+use Rattle.laws.proofs.Ranges.{Between, between-none, between-more}
 use Rattle.formed.proofs.end_formed.Statement.{statement}
 use Rattle.formed.proofs.end_formed.Tie as tie
-use Rattle.formed.proofs.end_formed.Reads as reads
-use Rattle.formed.proofs.end_formed.Lts as lts
-use Rattle.formed.proofs.edge_formed.Reads as edge-formed-reads
-use Rattle.formed.proofs.read.Reads as read-reads
 
 abbrev Inv-loop : tie.InvT-loop
 Inv-loop starts ids ends pieces end low high first past k₀ k = (first ≤ k) × (k ≤ past) × Between (EdgeFormed starts ids pieces end first) first k

@@ -3,16 +3,11 @@ use native.Mathlib.Omega.{arith}
 use borrow.Author.Tests.{not-true, not-false}
 use denote.Ref.{now}
 use Rattle.formed.specs.Formed.{Inside, EndFormed}
-use Rattle.formed.proofs.Tests.{said-yes, said-no}
+use Rattle.laws.proofs.Tests.{said-yes, said-no}
 use Rattle.formed.proofs.Edges.{first-offset}
-use Rattle.formed.proofs.Ranges.{Between, between-none, between-more}
+use Rattle.laws.proofs.Ranges.{Between, between-none, between-more}
 use Rattle.formed.proofs.formed.Statement.{statement}
 use Rattle.formed.proofs.formed.Tie as tie
-use Rattle.formed.proofs.formed.Reads as reads
-use Rattle.formed.proofs.formed.Lts as lts
-use Rattle.formed.proofs.end_formed.Reads as end-formed-reads
-use Rattle.formed.proofs.inside.Reads as inside-reads
-use Rattle.formed.proofs.read.Reads as read-reads
 
 abbrev Inv-loop : tie.InvT-loop
 Inv-loop starts ids ends pieces span n end₀ end = (end ≤ n + 1) × Between (EndFormed starts ids ends pieces span) 0 end

@@ -2,8 +2,6 @@ use native.Mathlib.Omega.{arith}
 use borrow.Author.Needs.{needs}
 use Rattle.formed.proofs.read.Statement.{statement}
 use Rattle.formed.proofs.read.Tie as tie
-use Rattle.formed.proofs.read.Reads as reads
-use Rattle.formed.proofs.read.Lts as lts
 
 -- src/lib.rt:26:5
 mul-result : tie.Need-mul-result

@@ -7,7 +7,8 @@ use native.Mathlib.Omega.{arith}
 use lib.ListN.{take}
 use Rattle.lattice.specs.Lattice.{Edge}
 use Rattle.lattice.specs.Pruning.{retained}
-use Rattle.retain.specs.Retain.{Laid, Written}
+use Rattle.lattice.specs.Written.{Written}
+use Rattle.retain.specs.Retain.{Laid}
 use Rattle.retain.proofs.Caches.{Long, room, written-none, ready-at, written-more, written-all, written-long}
 use Rattle.retain.proofs.retain_core.Statement.{statement}
 use Rattle.retain.proofs.retain_core.Tie as tie

@@ -1,9 +1,10 @@
 //! A child of the trainer's module, so that its private steps can be asked for one at a time.
 
 pub(crate) use super::lattice::probe::{log_add, Lent};
-pub(crate) use super::lattice::{Edge, Lattice};
+pub(crate) use super::lattice::{Edge, Lattice, LatticeBuilder, LatticeCache};
+pub(crate) use super::trie::PieceTrie;
 
-use super::{piece_texts, LatticeBuilder, LatticeCache, PieceTrie, Scratch, UnigramTrainer};
+use super::{piece_texts, Scratch, UnigramTrainer};
 
 /// A piece and its count. Only `seed` fills the counts, and no later step reads them.
 pub(crate) type Piece = (String, u64);

@@ -1,0 +1,45 @@
+//! Causeylark for Rust: the proved library, with its slices lent by the wrapper.
+//!
+//! The lattices of words over pieces, and their pruning:
+//!
+//! ```
+//! use causeylark::{Cache, PRUNED};
+//!
+//! let mut cache = Cache::build(16, &[b"aba"], &[b"a", b"b", b"ab", b"ba"])?;
+//! assert_eq!(cache.word(0).unwrap().offsets(), [0, 0, 1, 3, 5]);
+//! assert_eq!(cache.retain(&[0, PRUNED, 1, 2])?, 4);
+//! # Ok::<(), causeylark::Refusal>(())
+//! ```
+//!
+//! And the mathematics, of which docs/MATH.md fixes every bit: [`exp`], [`ln`], [`ln_1p`].
+#![warn(missing_docs)]
+
+pub mod c;
+mod cache;
+mod refusal;
+pub mod slices;
+
+pub use cache::{Cache, Edge, Lattice, PRUNED};
+pub use refusal::Refusal;
+
+/// e^x.
+pub fn exp(x: f64) -> f64 {
+    c::causeylark_exp(x)
+}
+
+/// ln x.
+pub fn ln(x: f64) -> f64 {
+    c::causeylark_ln(x)
+}
+
+/// ln(1 + y).
+pub fn ln_1p(y: f64) -> f64 {
+    c::causeylark_ln_1p(y)
+}
+
+/// How many bytes at the front of a text are UTF-8 by RFC 3629: all of them, or those before the
+/// first byte that begins no character.
+pub fn utf8_valid_up_to(text: &[u8]) -> usize {
+    // SAFETY: a slice is a pointer and a length of bytes that may be read.
+    unsafe { c::causeylark_utf8_valid_up_to(text.as_ptr(), text.len()) }
+}

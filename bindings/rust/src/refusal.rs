@@ -1,0 +1,112 @@
+//! Why a call said no.
+
+use std::fmt;
+
+/// Why a call said no, with its place. Nothing was done.
+#[derive(Clone, Copy, Debug, PartialEq, Eq)]
+#[non_exhaustive]
+pub enum Refusal {
+    /// 2: the piece length setting is over 32. The place is 3.
+    BadSetting(u64),
+    /// 3: the word at this index is over 255 bytes, outside the text, or not UTF-8.
+    BadWord(u64),
+    /// 7: there is no room. 0: more words, pieces or bytes than the bounds. 2: the trie's places.
+    /// 3: the results' slots.
+    NoRoom(u64),
+    /// 9: the lattice of the word at this index is not well formed.
+    BadLattice(u64),
+    /// 13: this entry is neither [`PRUNED`](crate::PRUNED) nor the count of survivors before it.
+    BadRemap(u64),
+    /// 14: the piece of this id is outside its text, or not UTF-8.
+    BadPiece(u64),
+    /// 15: the piece of this id is spelt as an earlier one.
+    RepeatedPiece(u64),
+}
+
+impl Refusal {
+    /// The refusal that a call's answer and what it told stand for, or none where it was accepted.
+    pub(crate) fn of(number: u32, place: u64) -> Option<Refusal> {
+        Some(match number {
+            0 => return None,
+            2 => Refusal::BadSetting(place),
+            3 => Refusal::BadWord(place),
+            7 => Refusal::NoRoom(place),
+            9 => Refusal::BadLattice(place),
+            13 => Refusal::BadRemap(place),
+            14 => Refusal::BadPiece(place),
+            15 => Refusal::RepeatedPiece(place),
+            _ => unreachable!("no call of lattices answers {number}"),
+        })
+    }
+
+    /// Its number.
+    pub fn number(self) -> u32 {
+        match self {
+            Refusal::BadSetting(_) => 2,
+            Refusal::BadWord(_) => 3,
+            Refusal::NoRoom(_) => 7,
+            Refusal::BadLattice(_) => 9,
+            Refusal::BadRemap(_) => 13,
+            Refusal::BadPiece(_) => 14,
+            Refusal::RepeatedPiece(_) => 15,
+        }
+    }
+
+    /// Its place.
+    pub fn place(self) -> u64 {
+        match self {
+            Refusal::BadSetting(place)
+            | Refusal::BadWord(place)
+            | Refusal::NoRoom(place)
+            | Refusal::BadLattice(place)
+            | Refusal::BadRemap(place)
+            | Refusal::BadPiece(place)
+            | Refusal::RepeatedPiece(place) => place,
+        }
+    }
+
+    /// Its name.
+    pub fn name(self) -> &'static str {
+        match self {
+            Refusal::BadSetting(_) => "BadSetting",
+            Refusal::BadWord(_) => "BadWord",
+            Refusal::NoRoom(_) => "NoRoom",
+            Refusal::BadLattice(_) => "BadLattice",
+            Refusal::BadRemap(_) => "BadRemap",
+            Refusal::BadPiece(_) => "BadPiece",
+            Refusal::RepeatedPiece(_) => "RepeatedPiece",
+        }
+    }
+}
+
+impl fmt::Display for Refusal {
+    fn fmt(&self, to: &mut fmt::Formatter<'_>) -> fmt::Result {
+        write!(
+            to,
+            "{}, number {}, at place {}: ",
+            self.name(),
+            self.number(),
+            self.place()
+        )?;
+        match self {
+            Refusal::BadSetting(_) => write!(to, "the piece length setting is over 32."),
+            Refusal::BadWord(word) => {
+                write!(to, "word {word} is over 255 bytes, outside the text, or not UTF-8.")
+            }
+            Refusal::NoRoom(0) => {
+                write!(to, "there are more words, pieces or bytes of text than the bounds.")
+            }
+            Refusal::NoRoom(2) => write!(to, "the prefixes of the pieces exceed half of the trie's places."),
+            Refusal::NoRoom(_) => write!(to, "the lattices exceed the slots that were lent."),
+            Refusal::BadLattice(word) => write!(to, "the lattice of word {word} is not well formed."),
+            Refusal::BadRemap(entry) => write!(
+                to,
+                "entry {entry} of the remap is neither the mark of a pruned piece nor the count of survivors before it."
+            ),
+            Refusal::BadPiece(id) => write!(to, "piece {id} is outside its text, or not UTF-8."),
+            Refusal::RepeatedPiece(id) => write!(to, "piece {id} is spelt as an earlier piece."),
+        }
+    }
+}
+
+impl std::error::Error for Refusal {}

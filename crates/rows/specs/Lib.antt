@@ -1,0 +1,4 @@
+pub mod Chars
+pub mod Walks
+pub mod Grid
+pub mod Word

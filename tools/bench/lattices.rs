@@ -1,0 +1,316 @@
+//! How fast are the proved lattices beside the Rust original's?
+//!
+//! 16,384 words, Latin and Thai, over 32,000 pieces: their letters, and of their substrings those with the most characters in
+//! all, as a seed list has them. Both sides build the trie and every word's lattice, and then prune a quarter of the pieces.
+//!
+//! All of it is one program and one thread. Rounds of all that is measured alternate; the median of each counts, and the
+//! least is shown beside it. What the original has to allocate is part of its time, as it is part of what the wrapper for
+//! Rust takes; the calls over slices are lent theirs. Caches that are pruned are built before the clock starts.
+
+use causeylark::slices::{self, Lent, Results, Work};
+use std::collections::{BTreeSet, HashMap};
+use std::hint::black_box;
+use std::time::Instant;
+
+#[allow(dead_code)]
+#[path = "../math/random.rs"]
+mod random;
+
+use random::Random;
+
+const WORDS: usize = 16_384;
+const PIECES: usize = 32_000;
+const SETTING: usize = 16;
+const ROUNDS: usize = 15;
+
+const LATIN: [&str; 24] = [
+    "the", "fan", "rat", "tles", "when", "it", "is", "warm", "cool", "er", "ing", "ed", "power",
+    "sup", "ply", "no", "ise", "board", "re", "set", "s", "un", "driv", "es",
+];
+const THAI: [&str; 24] = [
+    "พัด",
+    "ลม",
+    "มี",
+    "เสียง",
+    "ดัง",
+    "เมื่อ",
+    "ร้อน",
+    "เย็น",
+    "แรง",
+    "ไฟ",
+    "ตก",
+    "จอ",
+    "ภาพ",
+    "ดับ",
+    "เอง",
+    "ไม่",
+    "ทำ",
+    "งาน",
+    "ติด",
+    "ช้า",
+    "หลัง",
+    "เปิด",
+    "ปิด",
+    "ได้",
+];
+
+/// Distinct words of syllables, the early ones of a script more often: Latin ones short, Thai ones long, as notes have them.
+fn words(random: &mut Random) -> Vec<String> {
+    let mut below = |count: usize| (random.bits() % count as u64) as usize;
+    let (mut words, mut seen) = (Vec::new(), BTreeSet::new());
+    while words.len() < WORDS {
+        let (syllables, most) = if below(2) == 0 { (LATIN, 4) } else { (THAI, 8) };
+        let count = 2 + below(most);
+        let word: String = (0..count)
+            .map(|_| syllables[below(24).min(below(24))])
+            .collect();
+        if word.len() <= 255 && seen.insert(word.clone()) {
+            words.push(word);
+        }
+    }
+    words
+}
+
+/// The letters, then the substrings of 2 to 16 characters that have the most characters in all, then by their bytes.
+fn pieces(words: &[String]) -> Vec<String> {
+    let mut counts: HashMap<&str, usize> = HashMap::new();
+    let mut letters = BTreeSet::new();
+    for word in words {
+        let at: Vec<usize> = word
+            .char_indices()
+            .map(|(at, _)| at)
+            .chain([word.len()])
+            .collect();
+        for start in 0..at.len() - 1 {
+            letters.insert(&word[at[start]..at[start + 1]]);
+            for end in start + 2..at.len().min(start + SETTING + 1) {
+                *counts.entry(&word[at[start]..at[end]]).or_default() += 1;
+            }
+        }
+    }
+    let mut longer: Vec<(usize, &str)> = counts
+        .iter()
+        .map(|(piece, count)| (count * piece.chars().count(), *piece))
+        .collect();
+    longer.sort_by(|a, b| b.0.cmp(&a.0).then(a.1.cmp(b.1)));
+    letters
+        .into_iter()
+        .chain(longer.into_iter().map(|(_, piece)| piece))
+        .take(PIECES)
+        .map(String::from)
+        .collect()
+}
+
+/// Of each four pieces one is gone, the letters among them too.
+fn quarter(random: &mut Random, pieces: usize) -> Vec<u32> {
+    let mut remap = Vec::new();
+    let (mut survivors, mut gone) = (0, 0);
+    for id in 0..pieces {
+        if id % 4 == 0 {
+            gone = id + (random.bits() % 4) as usize;
+        }
+        remap.push(if id == gone {
+            causeylark::PRUNED
+        } else {
+            survivors
+        });
+        survivors += u32::from(id != gone);
+    }
+    remap
+}
+
+fn spans(strings: &[String]) -> (Vec<u8>, Vec<u32>) {
+    let mut from = 0;
+    let mut numbers = Vec::new();
+    for string in strings {
+        numbers.extend([from, string.len() as u32]);
+        from += string.len() as u32;
+    }
+    (strings.concat().into_bytes(), numbers)
+}
+
+/// The four slices of a cache.
+#[derive(Clone, PartialEq)]
+struct Slices {
+    offsets: Vec<u32>,
+    starts: Vec<u32>,
+    ids: Vec<u32>,
+    spans: Vec<u32>,
+}
+
+impl Slices {
+    fn lent(&mut self) -> Results<'_> {
+        Results {
+            offsets: &mut self.offsets,
+            starts: &mut self.starts,
+            ids: &mut self.ids,
+            spans: &mut self.spans,
+        }
+    }
+
+    /// As large as what the original has built, or left.
+    fn like(theirs: &[original::Lattice]) -> Slices {
+        let edges = theirs.iter().map(|lattice| lattice.edges.len()).sum();
+        let offsets = theirs.iter().map(|lattice| lattice.offsets.len()).sum();
+        Slices {
+            offsets: vec![0; offsets],
+            starts: vec![0; edges],
+            ids: vec![0; edges],
+            spans: vec![0; 4 * theirs.len()],
+        }
+    }
+
+    /// Whether they begin with the original's lattices.
+    fn hold(&self, theirs: &[original::Lattice]) -> bool {
+        let offsets = theirs.iter().flat_map(|lattice| &lattice.offsets);
+        let edges = || theirs.iter().flat_map(|lattice| &lattice.edges);
+        offsets.zip(&self.offsets).all(|(a, b)| a == b)
+            && edges()
+                .zip(&self.starts)
+                .all(|(edge, start)| edge.0 == *start)
+            && edges().zip(&self.ids).all(|(edge, id)| edge.2 == *id)
+    }
+}
+
+/// What is measured, and how long each round took, in seconds.
+struct Row {
+    name: &'static str,
+    times: Vec<f64>,
+}
+
+impl Row {
+    fn new(name: &'static str) -> Row {
+        Row {
+            name,
+            times: Vec::new(),
+        }
+    }
+
+    fn time<T>(&mut self, call: impl FnOnce() -> T) -> T {
+        let begun = Instant::now();
+        let answer = black_box(call());
+        self.times.push(begun.elapsed().as_secs_f64());
+        answer
+    }
+
+    fn median(&self) -> f64 {
+        let mut times = self.times.clone();
+        times.sort_by(f64::total_cmp);
+        times[times.len() / 2]
+    }
+
+    fn show(&self, against: &Row) {
+        let least = self.times.iter().copied().fold(f64::INFINITY, f64::min);
+        let (median, ratio) = (self.median(), self.median() / against.median());
+        println!(
+            "{:<36}  {:8.2}  {:8.2}  {ratio:5.2}",
+            self.name,
+            1e3 * median,
+            1e3 * least
+        );
+    }
+}
+
+fn main() {
+    let mut random = Random(1);
+    let words = words(&mut random);
+    let pieces = pieces(&words);
+    let remap = quarter(&mut random, pieces.len());
+    let word_texts: Vec<&str> = words.iter().map(String::as_str).collect();
+    let piece_texts: Vec<&str> = pieces.iter().map(String::as_str).collect();
+    let word_bytes: Vec<&[u8]> = words.iter().map(String::as_bytes).collect();
+    let piece_bytes: Vec<&[u8]> = pieces.iter().map(String::as_bytes).collect();
+    let ((text, word_spans), (piece_text, piece_spans)) = (spans(&words), spans(&pieces));
+    let lent = Lent {
+        setting: SETTING,
+        text: &text,
+        words: &word_spans,
+        piece_text: &piece_text,
+        pieces: &piece_spans,
+    };
+
+    let places = 2
+        * (piece_texts
+            .iter()
+            .map(|piece| piece.chars().count())
+            .sum::<usize>()
+            + 1);
+    let (mut keys, mut ends, mut table) =
+        (vec![0; places], vec![0; places], vec![0; 2 * pieces.len()]);
+    let theirs = original::Cache::build(SETTING, &word_texts, &original::Trie::build(&piece_texts))
+        .lattices();
+    let mut ours = Slices::like(&theirs);
+    let edges = ours.starts.len();
+    println!(
+        "{} words, {} characters, {} pieces, {edges} edges, {places} places, {ROUNDS} rounds",
+        words.len(),
+        word_texts
+            .iter()
+            .map(|word| word.chars().count())
+            .sum::<usize>(),
+        pieces.len(),
+    );
+
+    let [mut both, mut walked, mut built, mut wrapped] = [
+        "original, trie and lattices",
+        "original, lattices alone",
+        "ours, slices lent",
+        "ours, by bindings/rust",
+    ]
+    .map(Row::new);
+    let [mut pruned, mut retained] =
+        ["original, a quarter pruned", "ours, a quarter pruned"].map(Row::new);
+    for round in 0..=ROUNDS {
+        let trie = both.time(|| original::Trie::build(black_box(&piece_texts)));
+        let mut cache =
+            walked.time(|| original::Cache::build(SETTING, black_box(&word_texts), &trie));
+        // The sum of the two: a trie that is kept is walked as warm as one just built.
+        *both.times.last_mut().unwrap() += walked.times.last().unwrap();
+        let said = built.time(|| {
+            slices::build(
+                black_box(lent),
+                ours.lent(),
+                Work {
+                    keys: &mut keys,
+                    ends: &mut ends,
+                    table: &mut table,
+                },
+            )
+        });
+        assert_eq!(said, Ok(edges), "build");
+        let own = wrapped.time(|| {
+            causeylark::Cache::build(SETTING, black_box(&word_bytes), black_box(&piece_bytes))
+        });
+        assert_eq!(own.map(|own| own.edges()), Ok(edges), "bindings");
+        pruned.time(|| cache.retain(black_box(&remap)));
+        let mut left = ours.clone();
+        let said = retained.time(|| slices::retain(left.lent(), words.len(), black_box(&remap)));
+        if round == 0 {
+            // The first round warms up, and is looked at.
+            assert!(ours.hold(&theirs), "not the original's lattices");
+            let theirs = cache.lattices();
+            assert_eq!(said, Ok(Slices::like(&theirs).starts.len()), "retain");
+            assert!(left.hold(&theirs), "not the original's lattices, pruned");
+            for row in [
+                &mut both,
+                &mut walked,
+                &mut built,
+                &mut wrapped,
+                &mut pruned,
+                &mut retained,
+            ] {
+                row.times.clear();
+            }
+        }
+    }
+    println!(
+        "{:<36}  {:>8}  {:>8}  {:>5}",
+        "what", "median", "least, ms", "ratio"
+    );
+    for row in [&both, &walked, &built, &wrapped] {
+        row.show(&both);
+    }
+    for row in [&pruned, &retained] {
+        row.show(&pruned);
+    }
+}
