@@ -1,4 +1,11 @@
-// The edges of a word by end, and then by start.
+// The lattices of words, laid out in a cache: `LatticeBuilder::build` and `LatticeCache::push` of lattice.rs, steps 4 and 5 of
+// document 01's port order.
+//
+// "Edges by end, then start." The walks of `rows` stand in a grid, a row for each start. Each end reads the starts that reach
+// it, rising, and puts an edge where a piece was found. That is the order at once. A word's offsets are the running count of
+// its edges, n + 2 of them, and its span says where both stand. Words follow each other from slot 0.
+//
+// `count_words` counts what `build_words` will put, since nothing may be written where there is no room for all.
 use rows::walk_word;
 use spans::count;
 use utf8::classes;

@@ -1,4 +1,11 @@
-// Which pieces begin at each character of a word.
+// Which pieces begin at each character of a word: the walks of `LatticeBuilder::build` of lattice.rs, step 4 of document 01's
+// port order. "From each start, the walk stops at the first character no piece continues, or after the length setting."
+//
+// A walk writes what it finds into its row of a grid: at each step the piece that is spelt so far, as its id plus 1, or 0.
+// The builder then reads the grid end by end, and so has the edges in their order with nothing to sort. A row is as long as the
+// longest setting, and what a walk does not reach is cleared, so that one grid serves all words.
+//
+// The word's characters are decoded once, and each start walks over numbers.
 use places::Found;
 use places::find;
 use utf8::Decoded;
