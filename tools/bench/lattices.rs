@@ -5,7 +5,9 @@
 //!
 //! All of it is one program and one thread. Rounds of all that is measured alternate; the median of each counts, and the
 //! least is shown beside it. What the original has to allocate is part of its time, as it is part of what the wrapper for
-//! Rust takes; the calls over slices are lent theirs. Caches that are pruned are built before the clock starts.
+//! Rust takes; the calls over slices are lent theirs: once the room that include/causeylark.h says always suffices, and once
+//! exactly the room that the edges take, where they have to be counted before they are written. Caches that are pruned are
+//! built before the clock starts.
 
 use causeylark::slices::{self, Lent, Results, Work};
 use std::collections::{BTreeSet, HashMap};
@@ -139,6 +141,16 @@ struct Slices {
 }
 
 impl Slices {
+    /// Slots that suffice for whatever edges so many words of so many bytes have, as include/causeylark.h counts them.
+    fn ample(words: usize, bytes: usize) -> Slices {
+        Slices {
+            offsets: vec![0; bytes + 2 * words],
+            starts: vec![0; SETTING * bytes],
+            ids: vec![0; SETTING * bytes],
+            spans: vec![0; 4 * words],
+        }
+    }
+
     fn lent(&mut self) -> Results<'_> {
         Results {
             offsets: &mut self.offsets,
@@ -240,10 +252,12 @@ fn main() {
     let theirs = original::Cache::build(SETTING, &word_texts, &original::Trie::build(&piece_texts))
         .lattices();
     let mut ours = Slices::like(&theirs);
+    let mut roomy = Slices::ample(words.len(), text.len());
     let edges = ours.starts.len();
     println!(
-        "{} words, {} characters, {} pieces, {edges} edges, {places} places, {ROUNDS} rounds",
+        "{} words, {} bytes, {} characters, {} pieces, {edges} edges, {places} places, {ROUNDS} rounds",
         words.len(),
+        text.len(),
         word_texts
             .iter()
             .map(|word| word.chars().count())
@@ -251,10 +265,11 @@ fn main() {
         pieces.len(),
     );
 
-    let [mut both, mut walked, mut built, mut wrapped] = [
+    let [mut both, mut walked, mut ample, mut exact, mut wrapped] = [
         "original, trie and lattices",
         "original, lattices alone",
-        "ours, slices lent",
+        "ours, slices lent, room for any",
+        "ours, slices lent, exactly the room",
         "ours, by bindings/rust",
     ]
     .map(Row::new);
@@ -266,18 +281,15 @@ fn main() {
             walked.time(|| original::Cache::build(SETTING, black_box(&word_texts), &trie));
         // The sum of the two: a trie that is kept is walked as warm as one just built.
         *both.times.last_mut().unwrap() += walked.times.last().unwrap();
-        let said = built.time(|| {
-            slices::build(
-                black_box(lent),
-                ours.lent(),
-                Work {
-                    keys: &mut keys,
-                    ends: &mut ends,
-                    table: &mut table,
-                },
-            )
-        });
-        assert_eq!(said, Ok(edges), "build");
+        for (row, slices) in [(&mut ample, &mut roomy), (&mut exact, &mut ours)] {
+            let work = Work {
+                keys: &mut keys,
+                ends: &mut ends,
+                table: &mut table,
+            };
+            let said = row.time(|| slices::build(black_box(lent), slices.lent(), work));
+            assert_eq!(said, Ok(edges), "build");
+        }
         let own = wrapped.time(|| {
             causeylark::Cache::build(SETTING, black_box(&word_bytes), black_box(&piece_bytes))
         });
@@ -287,14 +299,17 @@ fn main() {
         let said = retained.time(|| slices::retain(left.lent(), words.len(), black_box(&remap)));
         if round == 0 {
             // The first round warms up, and is looked at.
-            assert!(ours.hold(&theirs), "not the original's lattices");
+            for slices in [&roomy, &ours] {
+                assert!(slices.hold(&theirs), "not the original's lattices");
+            }
             let theirs = cache.lattices();
             assert_eq!(said, Ok(Slices::like(&theirs).starts.len()), "retain");
             assert!(left.hold(&theirs), "not the original's lattices, pruned");
             for row in [
                 &mut both,
                 &mut walked,
-                &mut built,
+                &mut ample,
+                &mut exact,
                 &mut wrapped,
                 &mut pruned,
                 &mut retained,
@@ -307,7 +322,7 @@ fn main() {
         "{:<36}  {:>8}  {:>8}  {:>5}",
         "what", "median", "least, ms", "ratio"
     );
-    for row in [&both, &walked, &built, &wrapped] {
+    for row in [&both, &walked, &ample, &exact, &wrapped] {
         row.show(&both);
     }
     for row in [&pruned, &retained] {

@@ -168,12 +168,19 @@ pub fn lend(random: &mut Random, case: &Case) -> Lent {
     }
 }
 
-/// What is used, and some slots more.
-pub fn sizes(random: &mut Random, used: &Cache, nodes: usize, pieces: usize) -> Sizes {
+/// What is used, and some slots more. Once in three, instead of what is used, as many edges and offsets as words of so many
+/// bytes can have: those are not counted before they are written.
+pub fn sizes(random: &mut Random, lent: &Lent, used: &Cache, nodes: usize, pieces: usize) -> Sizes {
+    let (mut edges, mut offsets) = (used.starts.len(), used.offsets.len());
+    if random.once_in(3) {
+        let words = lent.words.chunks_exact(2);
+        let bytes: usize = words.clone().map(|span| span[1] as usize).sum();
+        (edges, offsets) = (lent.setting * bytes, bytes + 2 * words.len());
+    }
     let mut more = |used: usize| used + random.pick(&[0, 0, 1, 2, 9]);
-    let edges = more(used.starts.len());
+    let edges = more(edges);
     Sizes {
-        offsets: more(used.offsets.len()),
+        offsets: more(offsets),
         // Equally many, or retain refuses what was built.
         starts: edges,
         ids: edges,

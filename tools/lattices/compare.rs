@@ -264,7 +264,7 @@ impl Comparison {
         let lent = cases::lend(&mut self.random, &case);
         let used = plain::laid(&plain::lattices(case.setting, &words, &pieces));
         let nodes = plain::nodes(pieces.iter().copied());
-        let sizes = cases::sizes(&mut self.random, &used, nodes, pieces.len());
+        let sizes = cases::sizes(&mut self.random, &lent, &used, nodes, pieces.len());
 
         let mut cache = self.build("accepted", &lent, &sizes);
         let mut original =

@@ -21,7 +21,7 @@ module _ (f : ℕ → List Edge) where
   pub joined-more : (k : ℕ) → joined (rows f (suc k)) ≡ joined (rows f k) ++ f k
   joined-more k = joined-append (rows f k) (f k ∷ []) ∙ ap (λ (l : List Edge). joined (rows f k) ++ l) (append-nil (f k))
 
-  count-more : (k : ℕ) → length (joined (rows f (suc k))) ≡ length (joined (rows f k)) + length (f k)
+  pub count-more : (k : ℕ) → length (joined (rows f (suc k))) ≡ length (joined (rows f k)) + length (f k)
   count-more k = ap length (joined-more k) ∙ length-append (joined (rows f k)) (f k)
 
   pub rows-most : (k n : ℕ) → k ≤ n → length (joined (rows f k)) ≤ length (joined (rows f n))
@@ -50,7 +50,7 @@ offsets-more f k =
     last-offset 0 (rows f k) (f k) ∙ ap (λ (m : ℕ). offsets (rows f k) ++ m ∷ []) e
 
 -- ---- few edges: an end has at most one for each start
-edge-one : (k : ℕ) (o : Option ℕ) → length (edge k o) ≤ 1
+pub edge-one : (k : ℕ) (o : Option ℕ) → length (edge k o) ≤ 1
 edge-one k none = omega arith
 edge-one k (some id) = omega arith
 

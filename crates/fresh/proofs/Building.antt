@@ -1,16 +1,21 @@
 -- The steps of a build: the room, the trie, the cache. Assumes nothing.
 use mathlib.Core.Path.{_≡_, refl, sym, ap, _∙_, subst}
+use mathlib.Core.Bool.{Bool, true, false}
 use mathlib.Core.List.{List, _++_}
 use Prim.Native.Nat.{ℕ, _+_, _*_, _/_, _≤_, _<_}
+use native.Mathlib.Nat.{le-trans}
 use native.Mathlib.Omega.{arith}
 use lib.Dec.{leb}
 use lib.ListN.{length, take, drop, length-map}
 use lib.Seq.{length-take-le, take-at}
 use borrow.Author.Tests.{leb-true, leb-false}
+use Rattle.laws.specs.Tests.{Says}
+use Rattle.laws.proofs.Tests.{said-yes, said-no}
 use Rattle.laws.proofs.Choices.{cond-cases}
 use Rattle.refusal.specs.declared.Refusal.{Refusal}
 use Rattle.refusal.specs.declared.Refusal.the-variants.{NoRoom}
 use Rattle.spans.specs.Spans.{many, charsAt, first, listed}
+use Rattle.spans.specs.Check.{AllGood}
 use Rattle.lattice.specs.Lattice.{Edge, lattice, cache}
 use Rattle.lattice.specs.Layout.{flat}
 use Rattle.lattice.proofs.Flat.{spans-long}
@@ -24,12 +29,14 @@ use Rattle.trie.proofs.Same.{length-first}
 use Rattle.trie.proofs.Theorems.{index-room}
 use Rattle.rows.specs.Word.{Room as WalkRoom}
 use Rattle.builder.specs.declared.Sizes.{Sizes}
-use Rattle.builder.specs.Lay.{wordsOf, Wants, Fits, Building, Counts, Builds}
+use Rattle.builder.specs.Lay.{wordsOf, Listed, Wants, Fits, Building, Counts, Builds}
+use Rattle.builder.proofs.Words.{many-edges}
 use Rattle.fresh.specs.Slots.{Room, Cleared}
 use Rattle.fresh.specs.Build.{Lent, Results, smaller, TrieRoom, afresh, CacheRoom, Ordered, Why, no-trie, no-cache, Unchanged, Answers}
-use Rattle.fresh.specs.Steps.{Front, Fronted, Laying, LaysTo, Lays, Follows}
+use Rattle.fresh.specs.Steps.{Short, bytesOf, Ample, Laying, Enough, LaysTo, Lays, Front, Fronted, Follows}
 use Rattle.fresh.specs.declared.Built.{Built}
 use Rattle.fresh.specs.declared.Built.the-variants.{Edges, Refused}
+use Rattle.fresh.proofs.Most.{edges-few, ends-few}
 use Rattle.fresh.proofs.Filled.{written-room, written-holds}
 
 -- ---- the smaller of two numbers
@@ -80,18 +87,62 @@ module _ (setting : ℕ) (pieces : List (List ℕ)) (text words : List ℕ) wher
         let p = f .in-spans in
         record { in-offsets = omega arith; in-starts = omega arith; in-ids = omega arith; in-spans = omega arith }
 
+  -- as many edges and offsets as there can be
+  ample-room : AllGood text words 255 (many words) → (y : Results) → Ample words setting y → CacheRoom all y
+  ample-room good y f =
+      let a = edges-few setting pieces text words (many words) good in
+      let b = ends-few setting pieces text words (many words) good in
+      let c = many-edges setting pieces text words (many words) in
+      let e = same-many all in
+      let d = spans-many in
+      record {
+        in-offsets = le-trans b (f .in-offsets);
+        in-starts = within (sym e ∙ c) a (f .in-starts);
+        in-ids = within c a (f .in-ids);
+        in-spans = let p = f .in-spans in omega arith;
+      }
+    where
+      within : {a b c d : ℕ} → a ≡ b → b ≤ c → c ≤ d → a ≤ d
+      within e h l = omega arith
+
+-- ---- `ample`
+pub ample-said : (words : List ℕ) (setting : ℕ) (y : Results) (r : Bool) {n b : ℕ} → n ≡ many words → b ≡ bytesOf words (many words) → Says r (Fits (y .offsets) (y .starts) (y .ids) (y .spans) n (record { edges = setting * b; ends = b + 2 * n })) → Says r (Ample words setting y)
+ample-said words setting y r {n} {b} e d s =
+    subst (λ (m : ℕ). Says r (Fits (y .offsets) (y .starts) (y .ids) (y .spans) m (record { edges = setting * bytesOf words (many words); ends = bytesOf words (many words) + 2 * m }))) e
+    (subst (λ (m : ℕ). Says r (Fits (y .offsets) (y .starts) (y .ids) (y .spans) n (record { edges = setting * m; ends = m + 2 * n }))) d s)
+
+-- ---- `enough`
+pub listed-short : {text words : List ℕ} → Listed text words → Short words
+listed-short l = record { few = l .few; short = λ k h. l .good k h .short }
+
+module _ (keys ends text words : List ℕ) (setting : ℕ) (y : Results) where
+  pub enough-ample : Listed text words → Ample words setting y → Enough keys ends text words setting y true
+  enough-ample l a f count t = ample-room setting (first f count) text words (l .good) y a
+
+  pub enough-counted : {so : Sizes} {n : ℕ} → Counts keys ends text words setting so → n ≡ many words → (r : Bool) → Says r (Fits (y .offsets) (y .starts) (y .ids) (y .spans) n so) → Enough keys ends text words setting y r
+  enough-counted {so} c e r s f count t = go r (subst (λ (m : ℕ). Says r (Fits (y .offsets) (y .starts) (y .ids) (y .spans) m so)) e s)
+    where
+      go : (r : Bool) → Says r (Fits (y .offsets) (y .starts) (y .ids) (y .spans) (many words) so) → Says r (CacheRoom (all setting (first f count) text words) y)
+      go true q = fits-room setting (first f count) text words (c f count t) y q
+      go false q = λ h. q (room-fits setting (first f count) text words (c f count t) y h)
+
 -- ---- `lay`
 module _ {keys ends text words : List ℕ} {setting : ℕ} (l : Laying keys ends text words setting) where
   pub walk-room : {chars grid : List ℕ} → 255 ≤ length chars → 8160 ≤ length grid → WalkRoom keys ends setting chars grid
   walk-room a b = record { few = l .few; level = l .level; narrow = l .narrow; room = a; wide = b }
 
-  module _ {so : Sizes} (counts : Counts keys ends text words setting so) (y : Results) where
-    pub lay-refused : {refusal : Refusal} → refusal ≡ NoRoom 3 → (Fits (y .offsets) (y .starts) (y .ids) (y .spans) (many words) so → ⊥) → Lays keys ends text words setting y y (Refused refusal)
-    lay-refused e n f count t = (e, λ r. n (room-fits setting (first f count) text words (counts f count t) y r), unchanged y)
+  module _ (y : Results) (r : Bool) (enough : Enough keys ends text words setting y r) where
+    pub lay-refused : {refusal : Refusal} → refusal ≡ NoRoom 3 → r ≡ false → Lays keys ends text words setting y y (Refused refusal)
+    lay-refused e n f count t = (e, said-no r n (enough f count t), unchanged y)
 
-    module _ (fits : Fits (y .offsets) (y .starts) (y .ids) (y .spans) (many words) so) where
+    module _ (yes : r ≡ true) where
       pub lay-building : Building keys ends text words setting (y .offsets) (y .starts) (y .ids) (y .spans)
-      lay-building = record { listed = l .listed; f = l .f; count = l .count; holds = l .holds; so = so; wants = counts (l .f) (l .count) (l .holds); fits = fits }
+      lay-building =
+          let pieces = first (l .f) (l .count) in
+          let so : Sizes = record { edges = length (flat (all setting pieces text words) .ids); ends = length (flat (all setting pieces text words) .ends) } in
+          let w : Wants setting pieces (wordsOf text words (many words)) so = record { edges-are = refl; ends-are = refl } in
+          let room = said-yes r yes (enough (l .f) (l .count) (l .holds)) in
+          record { listed = l .listed; f = l .f; count = l .count; holds = l .holds; so = so; wants = w; fits = room-fits setting pieces text words w y room }
 
       module _ {o s i p : List ℕ} {end : Sizes} (builds : Builds keys ends text words setting (y .offsets) (y .starts) (y .ids) (y .spans) o s i p end) where
         pub lay-room : Room o s i p (end .ends) (end .edges) (many words)
@@ -103,7 +154,7 @@ module _ {keys ends text words : List ℕ} {setting : ℕ} (l : Laying keys ends
             → Cleared o s i p (end .ends) (end .edges) (many words) (y' .offsets) (y' .starts) (y' .ids) (y' .spans) → Lays keys ends text words setting y y' (Edges (end .edges))
         lay-laid y' lo ls li lp clear f count t =
             let b = builds f count t in
-            (fits-room setting (first f count) text words (counts f count t) y fits, written-holds (all setting (first f count) text words) (y .offsets) (y .starts) (y .ids) (y .spans) (many words) (b .0) (b .1 .ends-are) (spans-many setting (first f count) text words) lo ls li lp clear)
+            (said-yes r yes (enough f count t), written-holds (all setting (first f count) text words) (y .offsets) (y .starts) (y .ids) (y .spans) (many words) (b .0) (b .1 .ends-are) (spans-many setting (first f count) text words) lo ls li lp clear)
 
 -- ---- the trie, in the first places of both slices
 front-taken : (places : ℕ) (l front : List ℕ) → places ≤ length l → length front ≡ length (take places l) → take places (front ++ drop places l) ≡ front

@@ -1,15 +1,17 @@
 -- What the steps of a build ask and promise. Definitions only.
 use mathlib.Core.Path.{_≡_}
+use mathlib.Core.Bool.{Bool}
 use mathlib.Core.List.{List}
-use Prim.Native.Nat.{ℕ, _≤_}
+use Prim.Native.Nat.{ℕ, zero, suc, _+_, _*_, _≤_, _<_}
 use lib.ListN.{length, take}
 use Rattle.refusal.specs.declared.Refusal.the-variants.{NoRoom}
-use Rattle.spans.specs.Spans.{many, first}
+use Rattle.laws.specs.Tests.{Says}
+use Rattle.spans.specs.Spans.{many, bytes, first}
 use Rattle.lattice.specs.Lattice.{Edge, cache}
 use Rattle.trie.specs.Index.{Indexing, Indexes}
 use Rattle.trie.specs.declared.Indexed.{Indexed}
 use Rattle.rows.specs.Word.{Holds}
-use Rattle.builder.specs.Lay.{wordsOf, Listed}
+use Rattle.builder.specs.Lay.{wordsOf, Listed, Fits}
 use Rattle.fresh.specs.Build.{Lent, Results, CacheRoom, Unchanged, Fresh, Ordered, Answers}
 use Rattle.fresh.specs.declared.Built.{Built}
 use Rattle.fresh.specs.declared.Built.the-variants.{Edges, Refused}
@@ -23,7 +25,26 @@ pub record Front (keys ends : List ℕ) (places : ℕ) (spellings pieces : List 
 abbrev pub Fronted : List ℕ → ℕ → List ℕ → List ℕ → List ℕ → List ℕ → Indexed → Type 0
 Fronted keys places spellings pieces keys' ends' r = Indexes spellings pieces (take places keys) (take places keys') (take places ends') r
 
+-- ---- the room that suffices, whatever the words and pieces are
+-- "A word has 0 to 255 bytes", "At most 16,384 words"
+pub record Short (words : List ℕ) : Type 0 where
+  pub few : many words ≤ 16384
+  pub short : (k : ℕ) → k < many words → bytes words k ≤ 255
+
+-- how many bytes the first k words have
+abbrev pub bytesOf : List ℕ → ℕ → ℕ
+bytesOf words zero = 0
+bytesOf words (suc k) = bytesOf words k + bytes words k
+
+-- slots for n + 2 offsets a word of n characters, and for as many edges a character as the length setting; a character has a byte or more
+abbrev pub Ample : List ℕ → ℕ → Results → Type 0
+Ample words setting y = Fits (y .offsets) (y .starts) (y .ids) (y .spans) (many words) (record { edges = setting * bytesOf words (many words); ends = bytesOf words (many words) + 2 * many words })
+
 -- ---- the cache: of whatever pieces the trie is
+-- there are slots, or not
+abbrev pub Enough : List ℕ → List ℕ → List ℕ → List ℕ → ℕ → Results → Bool → Type 0
+Enough keys ends text words setting y r = (f : ℕ → List ℕ) (count : ℕ) → Holds keys ends f count → Says r (CacheRoom (cache setting (first f count) (wordsOf text words (many words))) y)
+
 pub record Laying (keys ends text words : List ℕ) (setting : ℕ) : Type 0 where
   pub few : length keys ≤ 4294967295
   pub level : length ends ≡ length keys

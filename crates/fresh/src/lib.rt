@@ -1,7 +1,8 @@
 // A cache built afresh from words and pieces that are in order: the trie, the room, the lattices.
 //
-// The lattices of all words are counted before any is written, since a refusal changes no result slice. Where there is room
-// they are laid out one behind the other from slot 0, and the slots behind them are cleared.
+// "A refusal changes no result slice", so it is known that there is room before any lattice is written. Where as many edges are
+// lent as words of so many bytes can have at most, that is a sum over the words; else the edges are counted, which takes a walk
+// of every word. The lattices are then laid out one behind the other from slot 0, and the slots behind them are cleared.
 use builder::build_words;
 use builder::count_words;
 use refusal::Refusal;
@@ -10,10 +11,12 @@ use trie::Indexed;
 ghost use mathlib.Core.Path.{_≡_};
 ghost use Prim.Native.Nat.{_≤_};
 ghost use Rattle.laws.specs.Tests.{Says};
-ghost use Rattle.builder.specs.Lay.{Fits};
+ghost use Rattle.spans.specs.Spans.{many};
+ghost use Rattle.rows.specs.Word.{Room as WalkRoom};
+ghost use Rattle.builder.specs.Lay.{Fits, Listed};
 ghost use Rattle.fresh.specs.Slots.{Room, Cleared};
 ghost use Rattle.fresh.specs.Build.{smaller};
-ghost use Rattle.fresh.specs.Steps.{Front, Fronted, Laying, Lays, InOrder, Follows};
+ghost use Rattle.fresh.specs.Steps.{Short, bytesOf, Ample, Laying, Enough, Lays, Front, Fronted, InOrder, Follows};
 
 // How many edges there are, or why nothing was done.
 pub enum Built {
@@ -75,6 +78,79 @@ fn fits(
     4 * words <= spans.len()
 }
 
+// How many bytes all words have.
+fn all_bytes(words: &[u32]) -> usize
+    requires { ⌜ Short (now words) ⌝ }
+    ensures { λ r. ⌜ r ≡ bytesOf (now (words .entry)) (many (now (words .entry))) ⌝ }
+{
+    let many = spans::count(words);
+    let mut sum = 0;
+    let mut k = 0;
+    while k < many {
+        sum += spans::bytes(words, k);
+        k += 1;
+    }
+    sum
+}
+
+// Whether there are slots for whatever lattices the words have. A character has a byte or more, and ends at most as many edges as
+// the length setting.
+fn ample(
+    offsets: &[u32],
+    starts: &[u32],
+    ids: &[u32],
+    spans: &[u32],
+    words: &[u32],
+    setting: usize,
+) -> bool
+    requires { ⌜ Short (now words) × (setting ≤ 32) ⌝ }
+    ensures { λ r. ⌜ Says r (Ample (now (words .entry)) setting (record { offsets = now (offsets .entry); starts = now (starts .entry); ids = now (ids .entry); spans = now (spans .entry) })) ⌝ }
+{
+    let many = spans::count(words);
+    let bytes = all_bytes(words);
+    fits(
+        offsets,
+        starts,
+        ids,
+        spans,
+        many,
+        setting * bytes,
+        bytes + 2 * many,
+    )
+}
+
+// Whether there are slots for the lattices of all words over a trie. They are counted only where there may be too few.
+fn enough(
+    keys: &[u64],
+    ends: &[u32],
+    text: &[u8],
+    words: &[u32],
+    setting: usize,
+    chars: &mut [u32],
+    grid: &mut [u32],
+    offsets: &[u32],
+    starts: &[u32],
+    ids: &[u32],
+    spans: &[u32],
+) -> bool
+    requires { ⌜ WalkRoom (now keys) (now ends) setting (now chars) (now grid) × Listed (now text) (now words) ⌝ }
+    ensures { λ r. ⌜ Enough (now (keys .entry)) (now (ends .entry)) (now (text .entry)) (now (words .entry)) setting (record { offsets = now (offsets .entry); starts = now (starts .entry); ids = now (ids .entry); spans = now (spans .entry) }) r ⌝ }
+{
+    if ample(offsets, starts, ids, spans, words, setting) {
+        return true;
+    }
+    let so = count_words(keys, ends, text, words, setting, chars, grid);
+    fits(
+        offsets,
+        starts,
+        ids,
+        spans,
+        spans::count(words),
+        so.edges,
+        so.ends,
+    )
+}
+
 // The lattices of all words over a trie, laid out; or there are too few slots, and nothing is done.
 fn lay(
     keys: &[u64],
@@ -92,9 +168,19 @@ fn lay(
 {
     let mut chars = [0u32; 255];
     let mut grid = [0u32; 8160];
-    let so = count_words(keys, ends, text, words, setting, &mut chars, &mut grid);
-    let many = spans::count(words);
-    if !fits(offsets, starts, ids, spans, many, so.edges, so.ends) {
+    if !enough(
+        keys,
+        ends,
+        text,
+        words,
+        setting,
+        &mut chars,
+        &mut grid,
+        offsets,
+        starts,
+        ids,
+        spans,
+    ) {
         return Built::Refused(Refusal::NoRoom(refusal::NO_ROOM_EDGES));
     }
     let all = build_words(
@@ -110,6 +196,7 @@ fn lay(
         ids,
         spans,
     );
+    let many = spans::count(words);
     clear(offsets, starts, ids, spans, all.ends, all.edges, many);
     Built::Edges(all.edges)
 }

@@ -1,0 +1,58 @@
+use Rattle.fresh.proofs.Most.{Summed, summed-none, summed-few, summed-more, summed-all}
+use native.Mathlib.Omega.{arith}
+use Prim.Native.Nat.{_-_}
+use Rattle.fresh.proofs.all_bytes.Statement.{statement}
+use Rattle.fresh.proofs.all_bytes.Tie as tie
+
+abbrev Inv-loop : tie.InvT-loop
+Inv-loop words many sum₀ k₀ sum k = Summed words k sum
+
+abbrev μ-loop : tie.MeasureT-loop
+μ-loop words many sum₀ k₀ sum k = many - k
+
+-- src/lib.rt:86:9
+count-requires : tie.Need-count-requires Inv-loop μ-loop
+count-requires c κs = tt
+
+-- src/lib.rt:89:5
+loop-holds : tie.Need-loop-holds Inv-loop μ-loop
+loop-holds c = summed-none (c .before .before .args .words .now)
+
+-- src/lib.rt:90:16
+bytes-requires : tie.Need-bytes-requires Inv-loop μ-loop
+bytes-requires c κs = omega (arith, c .loop-test .taken, c .before .before .count .ensures)
+
+-- src/lib.rt:90:9
+add-sum : tie.Need-add-sum Inv-loop μ-loop
+add-sum c = omega (arith, summed-few (c .before .before .before .before .before .pre) (c .before .before .loop .inv), c .before .before .before .before .before .pre .short (c .before .before .loop .k) (omega (arith, c .before .loop-test .taken, c .before .before .before .count .ensures)), c .bytes .ensures)
+
+-- src/lib.rt:91:9
+add-k : tie.Need-add-k Inv-loop μ-loop
+add-k c = omega (arith, c .before .loop-test .taken)
+
+-- src/lib.rt:89:5
+loop-less : tie.Need-loop-less Inv-loop μ-loop
+loop-less c = omega arith
+
+-- src/lib.rt:89:5
+loop-again : tie.Need-loop-again Inv-loop μ-loop
+loop-again c = summed-more (c .before .before .before .before .before .pre) (c .before .before .loop .inv) (c .bytes .ensures) (omega (arith, c .before .loop-test .taken, c .before .before .before .count .ensures))
+
+-- src/lib.rt:82:1
+returns : tie.Need-returns Inv-loop μ-loop
+returns c = summed-all (c .before .before .before .before .pre) (c .before .loop .inv) (omega (arith, c .loop-test .left, c .before .before .count .ensures))
+
+pub all-bytes-spec : {M : Type 1} → statement M
+all-bytes-spec =
+    tie.close
+    (tie.spec
+    Inv-loop
+    μ-loop
+    count-requires
+    loop-holds
+    bytes-requires
+    add-sum
+    add-k
+    loop-less
+    loop-again
+    returns)
