@@ -18,6 +18,11 @@ pub record EdgeFormed (starts ids : List ℕ) (pieces end first k : ℕ) : Type 
   pub named : getD ids k 0 < pieces
   pub rising : first < k → getD starts (k - 1) 0 < getD starts k 0
 
+-- the last two of one edge, which may start at `low` or after
+pub record EdgeFrom (starts ids : List ℕ) (pieces low k : ℕ) : Type 0 where
+  pub named : getD ids k 0 < pieces
+  pub rising : low ≤ getD starts k 0
+
 -- offset p of the word, counted in its own edges
 abbrev pub offset : List ℕ → Span → ℕ → ℕ
 offset ends span p = getD ends (span .at + p) 0

@@ -8,7 +8,7 @@ ghost use mathlib.Core.Path.{_≡_};
 ghost use Prim.Native.Nat.{_+_, _≤_, _<_};
 ghost use lib.ListN.{length, getD};
 ghost use Rattle.laws.specs.Tests.{Says};
-ghost use Rattle.formed.specs.Formed.{Inside, EdgeFormed, EndFormed, Formed};
+ghost use Rattle.formed.specs.Formed.{Inside, EdgeFrom, EndFormed, Formed};
 
 // Where one word's lattice stands in the slices of a cache: its edges from `from` up to, not with, `to`; its offsets from
 // `at` on; and its number of characters.
@@ -27,34 +27,22 @@ pub fn read(numbers: &[u32], k: usize) -> usize
     numbers[k] as usize
 }
 
-// Edge k of the slices, which ends at `end`. The edges that end there begin with edge `first`.
-fn edge_formed(
-    starts: &[u32],
-    ids: &[u32],
-    pieces: usize,
-    end: usize,
-    first: usize,
-    k: usize,
-) -> bool
+// Edge k of the slices, which may start at `low` or after.
+fn edge_formed(starts: &[u32], ids: &[u32], pieces: usize, low: usize, k: usize) -> bool
     requires { ⌜ (k < length (now starts)) × (length (now starts) ≡ length (now ids)) ⌝ }
-    ensures { λ r. ⌜ Says r (EdgeFormed (now (starts .entry)) (now (ids .entry)) pieces end first k) ⌝ }
+    ensures { λ r. ⌜ Says r (EdgeFrom (now (starts .entry)) (now (ids .entry)) pieces low k) ⌝ }
 {
-    let start = read(starts, k);
-    if start >= end {
+    if read(starts, k) < low {
         return false;
     }
     if read(ids, k) >= pieces {
         return false;
     }
-    if k > first {
-        if read(starts, k - 1) >= start {
-            return false;
-        }
-    }
     true
 }
 
-// The edges that end at `end`.
+// The edges that end at `end`. The lowest start that an edge may have is one past the start before it. Since starts rise, all
+// are below the end if the last one is.
 fn end_formed(
     starts: &[u32],
     ids: &[u32],
@@ -76,14 +64,16 @@ fn end_formed(
     }
     let first = span.from + low;
     let past = span.from + high;
+    let mut lowest = 0;
     let mut k = first;
     while k < past {
-        if !edge_formed(starts, ids, pieces, end, first, k) {
+        if !edge_formed(starts, ids, pieces, lowest, k) {
             return false;
         }
+        lowest = starts[k] as usize + 1;
         k += 1;
     }
-    true
+    lowest <= end
 }
 
 // Whether the span lies inside the slices.

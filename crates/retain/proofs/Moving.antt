@@ -6,7 +6,7 @@ use Prim.Native.Nat.{ℕ, zero, suc, _+_, _-_, _≤_, _<_}
 use native.Mathlib.Omega.{arith}
 use lib.Dec.{eqb}
 use lib.ListN.{length, getD, set, length-append, length-map}
-use lib.Seq.{sets, length-sets, getD-set-other}
+use lib.Seq.{sets, length-sets, getD-set-other, set-getD}
 use Rattle.lattice.specs.Pruning.{gone}
 use Rattle.lattice.proofs.Fronts.{sets-append}
 use Rattle.retain.specs.Moves.{newId, stay, kept, keptTo, Moved, Run, Spot}
@@ -19,6 +19,15 @@ after l i (v ∷ vs) k d h = after (set l i v) (suc i) vs k d (omega arith) ∙ 
 map-join : (f : ℕ → ℕ) (xs ys : List ℕ) → map f (xs ++ ys) ≡ map f xs ++ map f ys
 map-join f [] ys = refl
 map-join f (x ∷ xs) ys = ap (λ (l : List ℕ). f x ∷ l) (map-join f xs ys)
+
+-- one of two numbers that lie in a range
+pub at-most : (b : Bool) {r x y : ℕ} → r ≡ cond b x y → x ≤ y → r ≤ y
+at-most true e h = omega arith
+at-most false e h = omega arith
+
+pub both-below : (b : Bool) {r x y n : ℕ} → r ≡ cond b x y → x < n → y < n → r < n
+both-below true e h g = omega arith
+both-below false e h g = omega arith
 
 -- ---- the edges that stay
 kept-add : (m i : List ℕ) (k a b : ℕ) → kept m i k (a + b) ≡ kept m i k a ++ kept m i (k + a) b
@@ -84,6 +93,11 @@ map-kept f g m i lo (suc n) e =
 -- ---- moves
 pub moved-none : (s i m : List ℕ) (w lo : ℕ) → Moved s i m w (keptTo m i lo lo) s i w
 moved-none s i m w lo = rw kept-nil (record { count = omega arith; starts-are = refl; ids-are = refl })
+
+-- an edge whose piece is gone: what stands at `write` is written again; and any other edge
+pub moved-either : (s i m : List ℕ) (w k : ℕ) (b : Bool) → Moved s i m w (cond b [] (k ∷ [])) (set s w (getD s (cond b w k) 0)) (set i w (cond b (getD i w 0) (newId m i k))) (cond b w (w + 1))
+moved-either s i m w k true = record { count = omega arith; starts-are = set-getD s w 0; ids-are = set-getD i w 0 }
+moved-either s i m w k false = record { count = omega arith; starts-are = refl; ids-are = refl }
 
 -- the next place lies no further than what has been read
 pub moved-behind : {s i m : List ℕ} {w : ℕ} {s' i' : List ℕ} {x : ℕ} (lo mid : ℕ) → lo ≤ mid → w ≤ lo → Moved s i m w (keptTo m i lo mid) s' i' x → x ≤ mid
