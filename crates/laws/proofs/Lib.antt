@@ -3,3 +3,4 @@ pub mod Tables
 pub mod Outcome
 pub mod Tests
 pub mod Ranges
+pub mod Fills

@@ -25,3 +25,13 @@ says-le {P} a b there back = go (leb a b) refl
     go : (t : Bool) → leb a b ≡ t → Says t P
     go true e = there (leb-true a b e)
     go false e = λ p. contrary e (back p)
+
+-- a test of P that says as much of Q
+pub says-with : {P Q : Type 0} (b : Bool) → (P → Q) → (Q → P) → Says b P → Says b Q
+says-with true there back s = there s
+says-with false there back s = λ q. s (back q)
+
+-- a test that holds answers yes
+pub says-true : {P : Type 0} (b : Bool) → Says b P → P → b ≡ true
+says-true true s p = refl
+says-true false s p = absurd (s p)

@@ -1,0 +1,3 @@
+pub mod Cut
+pub mod Checked
+pub mod Sums

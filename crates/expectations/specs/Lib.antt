@@ -1,0 +1,3 @@
+pub mod LogAdd
+pub mod Edges
+pub mod Sums

@@ -1,0 +1,10 @@
+pub mod Offers
+pub mod Shapes
+pub mod Filled
+pub mod Turns
+pub mod Walks
+pub mod Found
+pub mod Exact
+pub mod Excluding
+pub mod Theorems
+pub mod Examples

@@ -1,0 +1,5 @@
+pub mod Slices
+pub mod Walk
+pub mod Answers
+pub mod Outcome
+pub mod Excluding
