@@ -70,6 +70,7 @@ pub fn clear_floats(slots: &mut [f64])
     }
 }
 
+// The same of numbers.
 pub fn clear_numbers(slots: &mut [u32])
     ensures { λ _. ⌜ now (slots .exit) ≡ replicate (length (now (slots .entry))) 0 ⌝ }
 {
