@@ -79,7 +79,7 @@ fn rooms(n: usize, best: &[f64], back: &[u32]) -> bool
 }
 
 // The best cut of what was checked.
-fn cut_core(
+pub fn cut_core(
     offsets: &[u32],
     starts: &[u32],
     ids: &[u32],

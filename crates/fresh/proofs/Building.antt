@@ -88,7 +88,7 @@ module _ (setting : ℕ) (pieces : List (List ℕ)) (text words : List ℕ) wher
         record { in-offsets = omega arith; in-starts = omega arith; in-ids = omega arith; in-spans = omega arith }
 
   -- as many edges and offsets as there can be
-  ample-room : AllGood text words 255 (many words) → (y : Results) → Ample words setting y → CacheRoom all y
+  pub ample-room : AllGood text words 255 (many words) → (y : Results) → Ample words setting y → CacheRoom all y
   ample-room good y f =
       let a = edges-few setting pieces text words (many words) good in
       let b = ends-few setting pieces text words (many words) good in

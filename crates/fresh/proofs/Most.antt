@@ -31,7 +31,7 @@ unfolding spelling
 spelt-few no-scalar = omega arith
 spelt-few (more {c} {cs} h r) = let a = spelt-few r in let b = stands (at-front c h []) .some in let d = length-append (encode c) (spelling cs) in omega arith
 
-chars-few : {s : List ℕ} → Spells s (charsOf s) → length (charsOf s) ≤ length s
+pub chars-few : {s : List ℕ} → Spells s (charsOf s) → length (charsOf s) ≤ length s
 chars-few p = let a = spelt-few (p .scalars) in let b = ap length (p .spelt) in omega arith
 
 word-few : {text words : List ℕ} {k : ℕ} → Good text words 255 k → length (charsAt text words k) ≤ bytes words k

@@ -18,6 +18,7 @@ use Rattle.scores.specs.Floats.{f64s}
 use Rattle.scores.proofs.Winner.{wins-cut}
 use Rattle.viterbi.specs.Slices.{lattice-of}
 use Rattle.viterbi.specs.Walk.{spell}
+use Rattle.viterbi.specs.Answers.{Found}
 use Rattle.cut.specs.Cut.{Lent, Given}
 use Rattle.spelt.proofs.Rows.{offset-at, edge-of}
 
@@ -81,14 +82,17 @@ module _ (setting : ℕ) {pieces : List (List ℕ)} (distinct : Distinct pieces)
   pub spells-word : (ks : List ℕ) → Cut built (length word) ks → characters (spell idsOf ks) ≡ word
   spells-word ks c = spells-front ks (length word) (omega arith) c ∙ take-length word
 
-  -- ---- and so the path that `cut::viterbi` leaves: its first `count` ids are pieces that spell the word
-  abbrev lent : Lent
-  lent = record { offsets = offsets (lattice setting pieces word); starts = startsOf; ids = idsOf; n = length word; scores = scores }
-
-  pub path-spells : {best : List Float} {back path path' : List ℕ} {score : Float} {count : ℕ} → Given lent best back path path' score count → characters (take count path') ≡ word
-  path-spells {path = path} {count = count} g =
-      let f = g .found in
+  -- ---- and so the ids that a best cut leaves: the first `count` are pieces that spell the word
+  pub found-spells : {path path' : List ℕ} {score : Float} {count : ℕ} → Found built idsOf (length word) path path' score count → characters (take count path') ≡ word
+  found-spells {path = path} {count = count} f =
       let long : length (spell idsOf (f .cut)) ≡ count = length-reverse (map (λ j. getD idsOf j 0) (f .cut)) ∙ length-map (f .cut) (λ j. getD idsOf j 0) ∙ sym (f .count-is) in
       ap (λ (l : List ℕ). characters (take count l)) (f .written)
       ∙ ap characters (take-at (spell idsOf (f .cut)) (drop count path) count long)
       ∙ spells-word (f .cut) (wins-cut f64s built (length word) (f .cut) (f .is-best .wins))
+
+  -- so of the path that `cut::viterbi` leaves
+  abbrev lent : Lent
+  lent = record { offsets = offsets (lattice setting pieces word); starts = startsOf; ids = idsOf; n = length word; scores = scores }
+
+  pub path-spells : {best : List Float} {back path path' : List ℕ} {score : Float} {count : ℕ} → Given lent best back path path' score count → characters (take count path') ≡ word
+  path-spells g = found-spells (g .found)

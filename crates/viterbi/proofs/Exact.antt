@@ -1,7 +1,8 @@
 -- Exact slices of a lattice are well formed: those of a built lattice, and those that a caller cuts out of a cache at a word's span. Assumes nothing.
-use mathlib.Core.Path.{_≡_, refl, sym, ap, _∙_, subst}
-use mathlib.Core.List.{List, map}
-use Prim.Native.Nat.{ℕ, suc, _+_}
+use mathlib.Core.Path.{_≡_, refl, ap, _∙_}
+use mathlib.Core.List.{List, [], _∷_, map}
+use Prim.Native.Nat.{ℕ, suc, _+_, _≤_}
+use native.Mathlib.Nat.{le-trans}
 use native.Mathlib.Omega.{arith}
 use lib.ListN.{length, length-map}
 use lib.Seq.{slice, take-length, take-all}
@@ -11,7 +12,7 @@ use Rattle.lattice.specs.Layout.{joined, offsets}
 use Rattle.lattice.proofs.Joined.{offsets-long}
 use Rattle.formed.specs.declared.Span.{Span}
 use Rattle.formed.specs.Formed.{Formed}
-use Rattle.formed.specs.Held.{Rows}
+use Rattle.formed.specs.Held.{Row, Rows}
 use Rattle.formed.proofs.Built.{length-rows, built-sound}
 use Rattle.formed.proofs.Theorems.{readBack, well-formed-holds, holds-well-formed}
 use Rattle.formed.specs.Word.{whole}
@@ -46,9 +47,18 @@ span-well-formed starts ids ends scores span formed =
     exact (readBack starts ids ends (length scores) span) (held .starts-are) (held .ids-are) (held .offsets-are) (held .ends-are) (held .rows)
 
 -- ---- the slices of a built lattice
-pub built-exact : (setting : ℕ) (pieces : List (List ℕ)) (word : List ℕ) (scores : List Float) → length scores ≡ length pieces
+-- an id that has a score still has one where more are lent
+row-named : {m n : ℕ} → m ≤ n → (end : ℕ) (row : List Edge) → Row m end row → Row n end row
+row-named h end [] r = tt
+row-named h end (e ∷ es) (start, id, after, r) = (start, le-trans id h, after, row-named h end es r)
+
+rows-named : {m n : ℕ} → m ≤ n → (end : ℕ) (rows : List (List Edge)) → Rows m end rows → Rows n end rows
+rows-named h end [] r = tt
+rows-named h end (row ∷ rows) (first, others) = (row-named h end row first, rows-named h (suc end) rows others)
+
+pub built-exact : (setting : ℕ) (pieces : List (List ℕ)) (word : List ℕ) (scores : List Float) → length pieces ≤ length scores
     → WellFormed (offsets (lattice setting pieces word)) (map (λ e. e .start) (joined (lattice setting pieces word))) (map (λ e. e .id) (joined (lattice setting pieces word))) scores (length word)
 built-exact setting pieces word scores many =
     let rows = lattice setting pieces word in
     let ends = length-rows (ending setting pieces word) (suc (length word)) in
-    exact rows refl refl refl (omega arith) (subst (λ (m : ℕ). Rows m 0 rows) (sym many) (built-sound setting pieces word))
+    exact rows refl refl refl (omega arith) (rows-named many 0 rows (built-sound setting pieces word))

@@ -18,6 +18,7 @@ use Rattle.viterbi.specs.declared.Best.the-variants.{Score, NoPath}
 use Rattle.viterbi.specs.Slices.{lattice-of, Scored}
 use Rattle.viterbi.specs.Outcome.{Outcome, outcome}
 use Rattle.viterbi.specs.Answers.{Answers}
+use native.Mathlib.Omega.{arith}
 use Rattle.viterbi.proofs.Exact.{built-exact}
 use Rattle.viterbi.proofs.Theorems.{answers-exactly}
 
@@ -38,7 +39,7 @@ module _ (pieces : List (List ℕ)) (word : List ℕ) (scores : List Float) wher
 
   comes : length scores ≡ length pieces → Scored scores → (before : List ℕ) (r : Outcome) → outcome lattice-with ids (length word) before ≡ r → Comes before r
   comes many scored before r e s =
-      let x = answers-exactly (offsets (lattice 16 pieces word)) starts ids scores (length word) (built-exact 16 pieces word scores many) scored before s in
+      let x = answers-exactly (offsets (lattice 16 pieces word)) starts ids scores (length word) (built-exact 16 pieces word scores (omega arith)) scored before s in
       (λ p. x .0 p ∙ e, λ p. x .1 (p ∙ sym e))
 
 abbrev all-below : List Float → Bool

@@ -1,0 +1,5 @@
+pub mod Spans
+pub mod Checking
+pub mod Laid
+pub mod Cutting
+pub mod Theorems
