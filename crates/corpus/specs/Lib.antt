@@ -1,0 +1,4 @@
+pub mod Corpus
+pub mod Check
+pub mod Kept
+pub mod Steps
