@@ -1,0 +1,5 @@
+pub mod Sort
+pub mod Spelling
+pub mod Orders
+pub mod Merging
+pub mod Steps

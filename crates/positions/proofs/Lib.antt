@@ -1,0 +1,9 @@
+pub mod Octets
+pub mod Spelled
+pub mod Bounds
+pub mod Rows
+pub mod Turns
+pub mod Lists
+pub mod Texts
+pub mod Parts
+pub mod Theorems

@@ -1,0 +1,16 @@
+pub mod Lists
+pub mod Beginnings
+pub mod Runs
+pub mod Emitted
+pub mod Places
+pub mod Words
+pub mod Columns
+pub mod Found
+pub mod Ranks
+pub mod Bytes
+pub mod Slots
+pub mod Bounds
+pub mod Scores
+pub mod Each
+pub mod Theorems
+pub mod Examples
