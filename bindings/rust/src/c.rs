@@ -60,4 +60,85 @@ unsafe extern "C" {
         told: *mut u64,
         told_slots: usize,
     ) -> u32;
+
+    /// The best cut of one word's lattice.
+    pub fn causeylark_viterbi(
+        offsets: *const u32,
+        offset_count: usize,
+        starts: *const u32,
+        start_count: usize,
+        ids: *const u32,
+        id_count: usize,
+        n: usize,
+        scores: *const f64,
+        score_count: usize,
+        best: *mut f64,
+        best_slots: usize,
+        back: *mut u32,
+        back_slots: usize,
+        path: *mut u32,
+        path_slots: usize,
+        sum: *mut f64,
+        sum_slots: usize,
+        told: *mut u64,
+        told_slots: usize,
+    ) -> u32;
+
+    /// The best score of one word's lattice without a piece.
+    pub fn causeylark_viterbi_excluding(
+        offsets: *const u32,
+        offset_count: usize,
+        starts: *const u32,
+        start_count: usize,
+        ids: *const u32,
+        id_count: usize,
+        n: usize,
+        scores: *const f64,
+        score_count: usize,
+        excluded: u32,
+        best: *mut f64,
+        best_slots: usize,
+        sum: *mut f64,
+        sum_slots: usize,
+        told: *mut u64,
+        told_slots: usize,
+    ) -> u32;
+
+    /// Whether one word's lattice has a cut.
+    pub fn causeylark_is_connected(
+        offsets: *const u32,
+        offset_count: usize,
+        starts: *const u32,
+        start_count: usize,
+        ids: *const u32,
+        id_count: usize,
+        n: usize,
+        reach: *mut u32,
+        reach_slots: usize,
+        told: *mut u64,
+        told_slots: usize,
+    ) -> u32;
+
+    /// The expected count of every edge of one word's lattice, and the sum over all cuts.
+    pub fn causeylark_expectations(
+        offsets: *const u32,
+        offset_count: usize,
+        starts: *const u32,
+        start_count: usize,
+        ids: *const u32,
+        id_count: usize,
+        n: usize,
+        scores: *const f64,
+        score_count: usize,
+        alpha: *mut f64,
+        alpha_slots: usize,
+        beta: *mut f64,
+        beta_slots: usize,
+        emitted: *mut f64,
+        emitted_slots: usize,
+        sum: *mut f64,
+        sum_slots: usize,
+        told: *mut u64,
+        told_slots: usize,
+    ) -> u32;
 }

@@ -1,0 +1,130 @@
+// Cuts of one word's lattice, as `cut` has them, for C and Rust.
+//
+// A call that gives a sum, which is the best score or the sum over all cuts, puts it in slot 0 of the lent slice `sum`. A
+// refusal leaves `sum` as it was. What stands in `told` is the count of pieces, whether there is a cut (1 or 0), or 0 where
+// there is nothing to count; and a refusal's place.
+//
+// `cut::viterbi_short` has no function here: C returns no array. It is `causeylark_viterbi` with a path of 32 slots that hold
+// zeros, word for word in its contract too.
+use crate::accepted;
+use crate::refused;
+use cut::Connection;
+use cut::Cut;
+use cut::Excluded;
+use cut::Expected;
+ghost use mathlib.Core.Path.{_≡_};
+ghost use lib.ListN.{length, set};
+ghost use Rattle.cut.specs.Cut.{Answers, Excludes, zeros, zero-floats};
+ghost use Rattle.cut.specs.Sums.{Connects, Expects};
+ghost use Rattle.cut.specs.declared.Cut as CutOf;
+ghost use Rattle.cut.specs.declared.Excluded as ExcludedOf;
+ghost use Rattle.cut.specs.declared.Connection as ConnectionOf;
+ghost use Rattle.cut.specs.declared.Expected as ExpectedOf;
+ghost use Rattle.export.specs.Cuts.{cutNumber, cutTold, cutSum, excludedNumber, excludedTold, excludedSum, connectionNumber, connectionTold, expectedNumber, expectedTold, expectedSum};
+
+// A sum, at slot 0 if there is one.
+fn give(sum: &mut [f64], value: f64)
+    ensures { λ _. ⌜ now (sum .exit) ≡ set (now (sum .entry)) 0 value ⌝ }
+{
+    if 0 < sum.len() {
+        sum[0] = value;
+    }
+}
+
+// An accepted call that gives a sum: 0, the sum, and how many.
+fn summed(sum: &mut [f64], told: &mut [u64], value: f64, count: usize) -> u32
+    ensures { λ n. ⌜ (n ≡ 0) × (now (told .exit) ≡ set (now (told .entry)) 0 count) × (now (sum .exit) ≡ set (now (sum .entry)) 0 value) ⌝ }
+{
+    give(sum, value);
+    accepted(told, count)
+}
+
+// The best cut of a word, as `cut::viterbi` has it.
+#[no_mangle]
+pub extern "C" fn causeylark_viterbi(
+    offsets: &[u32],
+    starts: &[u32],
+    ids: &[u32],
+    n: usize,
+    scores: &[f64],
+    best: &mut [f64],
+    back: &mut [u32],
+    path: &mut [u32],
+    sum: &mut [f64],
+    told: &mut [u64],
+) -> u32
+    ensures { λ number. ⌜ ((r : CutOf.Cut) × Answers (record { offsets = now (offsets .entry); starts = now (starts .entry); ids = now (ids .entry); n = n; scores = now (scores .entry) }) (now (best .entry)) (now (back .entry)) (now (path .entry)) (now (path .exit)) r × (number ≡ cutNumber r) × (now (told .exit) ≡ set (now (told .entry)) 0 (cutTold r)) × (now (sum .exit) ≡ cutSum r (now (sum .entry)))) ⌝ }
+    ensures { λ _. ⌜ (now (best .exit) ≡ zero-floats (length (now (best .entry)))) × (now (back .exit) ≡ zeros (length (now (back .entry)))) ⌝ }
+{
+    match cut::viterbi(offsets, starts, ids, n, scores, best, back, path) {
+        Cut::Score { score, count } => summed(sum, told, score, count),
+        Cut::Refused(r) => refused(told, r),
+    }
+}
+
+// The best score of a word without a piece, as `cut::viterbi_excluding` has it.
+#[no_mangle]
+pub extern "C" fn causeylark_viterbi_excluding(
+    offsets: &[u32],
+    starts: &[u32],
+    ids: &[u32],
+    n: usize,
+    scores: &[f64],
+    excluded: u32,
+    best: &mut [f64],
+    sum: &mut [f64],
+    told: &mut [u64],
+) -> u32
+    ensures { λ number. ⌜ ((r : ExcludedOf.Excluded) × Excludes (record { offsets = now (offsets .entry); starts = now (starts .entry); ids = now (ids .entry); n = n; scores = now (scores .entry) }) excluded (now (best .entry)) r × (number ≡ excludedNumber r) × (now (told .exit) ≡ set (now (told .entry)) 0 (excludedTold r)) × (now (sum .exit) ≡ excludedSum r (now (sum .entry)))) ⌝ }
+    ensures { λ _. ⌜ now (best .exit) ≡ zero-floats (length (now (best .entry))) ⌝ }
+{
+    match cut::viterbi_excluding(offsets, starts, ids, n, scores, excluded, best) {
+        Excluded::Score(score) => summed(sum, told, score, 0),
+        Excluded::Refused(r) => refused(told, r),
+    }
+}
+
+// Whether a word has a cut, as `cut::is_connected` has it.
+#[no_mangle]
+pub extern "C" fn causeylark_is_connected(
+    offsets: &[u32],
+    starts: &[u32],
+    ids: &[u32],
+    n: usize,
+    reach: &mut [u32],
+    told: &mut [u64],
+) -> u32
+    ensures { λ number. ⌜ ((r : ConnectionOf.Connection) × Connects (now (offsets .entry)) (now (starts .entry)) (now (ids .entry)) n (now (reach .entry)) r × (number ≡ connectionNumber r) × (now (told .exit) ≡ set (now (told .entry)) 0 (connectionTold r))) ⌝ }
+    ensures { λ _. ⌜ now (reach .exit) ≡ zeros (length (now (reach .entry))) ⌝ }
+{
+    match cut::is_connected(offsets, starts, ids, n, reach) {
+        Connection::Cuts => accepted(told, 1),
+        Connection::NoCut => accepted(told, 0),
+        Connection::Refused(r) => refused(told, r),
+    }
+}
+
+// The expected count of every edge of a word and the sum over all cuts, as `cut::expectations` has them.
+#[no_mangle]
+pub extern "C" fn causeylark_expectations(
+    offsets: &[u32],
+    starts: &[u32],
+    ids: &[u32],
+    n: usize,
+    scores: &[f64],
+    alpha: &mut [f64],
+    beta: &mut [f64],
+    emitted: &mut [f64],
+    sum: &mut [f64],
+    told: &mut [u64],
+) -> u32
+    ensures { λ number. ⌜ ((r : ExpectedOf.Expected) × Expects (record { offsets = now (offsets .entry); starts = now (starts .entry); ids = now (ids .entry); n = n; scores = now (scores .entry) }) (now (alpha .entry)) (now (beta .entry)) (now (emitted .entry)) (now (emitted .exit)) r × (number ≡ expectedNumber r) × (now (told .exit) ≡ set (now (told .entry)) 0 (expectedTold r)) × (now (sum .exit) ≡ expectedSum r (now (sum .entry)))) ⌝ }
+    ensures { λ _. ⌜ (now (alpha .exit) ≡ zero-floats (length (now (alpha .entry)))) × (now (beta .exit) ≡ zero-floats (length (now (beta .entry)))) ⌝ }
+{
+    match cut::expectations(offsets, starts, ids, n, scores, alpha, beta, emitted) {
+        Expected::Sum(z) => summed(sum, told, z, 0),
+        Expected::Refused(r) => refused(told, r),
+    }
+}
+
+// A function for the one-word cut, `causeylark_cut`, belongs here, with its answer in the same way.
