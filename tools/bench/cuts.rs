@@ -9,8 +9,9 @@
 //! same calls with each word's own pieces and their scores alone, as a caller with one word has them. The calls are lent n + 1
 //! slots, which they clear.
 //!
-//! All of it is one program and one thread. Rounds of all that is measured alternate, and the least of each counts. Every
-//! answer is compared with the original's before the clock starts.
+//! All of it is one program and one thread. The words are parted into parts of 128, and rounds of all that is measured
+//! alternate part by part: the least of each part counts, and their sum is shown. So a machine that does other work besides
+//! disturbs little. Every answer is compared with the original's in a first round, which does not count.
 
 mod corpus;
 #[allow(dead_code)]
@@ -27,6 +28,7 @@ use std::hint::black_box;
 use std::time::Instant;
 
 const ROUNDS: usize = 31;
+const PART: usize = 128;
 
 /// The C functions of the library that `tools/native-staticlib bench_cuts` writes. What they require: the lattice is well
 /// formed, the scores are at zero or below, and there is room.
@@ -296,140 +298,170 @@ fn own_pieces(cache: &Cache, scores: &[f64]) -> Vec<Own> {
     cache.lattices().map(of).collect()
 }
 
-/// What is measured, and how long each round took, in seconds.
+/// The words of a part: our cache of them and the original's, what is lent, and where answers go.
+struct Part {
+    cache: Cache,
+    own: Vec<Own>,
+    excluded: Vec<u32>,
+    original: ::original::Cache,
+    stock: ::stock::Cache,
+    blank: Answers,
+}
+
+impl Part {
+    fn of(words: &[String], pieces: &[String]) -> Part {
+        let word_texts: Vec<&str> = words.iter().map(String::as_str).collect();
+        let piece_texts: Vec<&str> = pieces.iter().map(String::as_str).collect();
+        let word_bytes: Vec<&[u8]> = words.iter().map(String::as_bytes).collect();
+        let piece_bytes: Vec<&[u8]> = pieces.iter().map(String::as_bytes).collect();
+        let cache = Cache::build(SETTING, &word_bytes, &piece_bytes).unwrap();
+        Part {
+            blank: Answers::of(words.len(), cache.edges()),
+            own: Vec::new(),
+            excluded: Vec::new(),
+            original: original::build(&word_texts, &piece_texts),
+            stock: stock::build(&word_texts, &piece_texts),
+            cache,
+        }
+    }
+
+    /// With each word's own pieces, and the first piece of its best cut.
+    fn scored(mut self, scores: &[f64]) -> Part {
+        let first = |word: causeylark::Lattice<'_>| match word.viterbi(scores) {
+            Cut::Pieces { ids, .. } => ids[0],
+            other => panic!("a word with no cut: {other:?}"),
+        };
+        self.excluded = self.cache.lattices().map(first).collect();
+        self.own = own_pieces(&self.cache, scores);
+        self
+    }
+
+    fn word(&self, index: usize) -> Word<'_> {
+        let word = self.cache.word(index).unwrap();
+        Word { offsets: word.offsets(), starts: word.starts(), ids: word.ids(), n: word.characters() }
+    }
+
+    /// Each word's lattice with all scores.
+    fn all<'a>(&'a self, scores: &'a [f64]) -> Lent<'a> {
+        let words = (0..self.cache.len()).map(|index| (self.word(index), scores)).collect();
+        Lent { words, excluded: self.excluded.clone() }
+    }
+
+    /// Each word's lattice with its own scores.
+    fn alone(&self) -> Lent<'_> {
+        let word = |index: usize| (Word { ids: &self.own[index].ids, ..self.word(index) }, &self.own[index].scores[..]);
+        let excluded = self.excluded.iter().zip(&self.own).map(|(id, own)| own.known[id]).collect();
+        Lent { words: (0..self.own.len()).map(word).collect(), excluded }
+    }
+}
+
+/// What is measured: a name, and a call on a part, by its number.
 struct Row<'a> {
     name: &'static str,
-    run: Box<dyn FnMut(&mut Answers) + 'a>,
-    times: Vec<f64>,
+    run: Box<dyn Fn(usize, &mut Answers) + 'a>,
 }
 
 impl<'a> Row<'a> {
-    fn new(name: &'static str, run: impl FnMut(&mut Answers) + 'a) -> Row<'a> {
-        let (run, times) = (Box::new(run), Vec::new());
-        Row { name, run, times }
+    fn new(name: &'static str, run: impl Fn(usize, &mut Answers) + 'a) -> Row<'a> {
+        let run = Box::new(run);
+        Row { name, run }
     }
 
-    fn time(&mut self, answers: &mut Answers) {
+    fn time(&self, part: usize, answers: &mut Answers) -> f64 {
         let begun = Instant::now();
-        (self.run)(black_box(answers));
-        self.times.push(begun.elapsed().as_secs_f64());
-    }
-
-    fn least(&self) -> f64 {
-        self.times.iter().copied().fold(f64::INFINITY, f64::min)
-    }
-
-    fn median(&self) -> f64 {
-        let mut times = self.times.clone();
-        times.sort_by(f64::total_cmp);
-        times[times.len() / 2]
+        (self.run)(part, black_box(answers));
+        begun.elapsed().as_secs_f64()
     }
 }
 
 /// The rows of one call, the first of which is the original's with our mathematics: measured, compared and shown.
-fn measure(mut rows: Vec<Row<'_>>, edges: usize, blank: &Answers) {
-    let mut answers: Vec<Answers> = rows.iter().map(|_| blank.clone()).collect();
-    for round in 0..=ROUNDS {
-        for (row, answers) in rows.iter_mut().zip(&mut answers) {
-            row.time(answers);
-        }
-        if round == 0 {
-            // The first round warms up, and is looked at.
-            for (row, other) in rows.iter().zip(&answers) {
-                let alike = other.bits() == answers[0].bits() && other.paths == answers[0].paths;
-                assert!(alike || row.name.contains("stock"), "{}: not the original's answers", row.name);
+fn measure(rows: &[Row<'_>], parts: &[Part], edges: usize) {
+    let mut totals = vec![0.0; rows.len()];
+    for (part, at) in parts.iter().zip(0..) {
+        let mut answers: Vec<Answers> = rows.iter().map(|_| part.blank.clone()).collect();
+        let mut least = vec![f64::INFINITY; rows.len()];
+        for round in 0..=ROUNDS {
+            for ((row, answers), least) in rows.iter().zip(&mut answers).zip(&mut least) {
+                let time = row.time(at, answers);
+                *least = if round == 0 { f64::INFINITY } else { least.min(time) };
             }
-            rows.iter_mut().for_each(|row| row.times.clear());
         }
+        for (row, other) in rows.iter().zip(&answers) {
+            let alike = other.bits() == answers[0].bits() && other.paths == answers[0].paths;
+            assert!(alike || row.name.contains("stock"), "{}: not the original's answers", row.name);
+        }
+        totals.iter_mut().zip(least).for_each(|(total, least)| *total += least);
     }
-    let original = rows[0].least();
-    for row in &rows {
-        let (least, each) = (row.least(), 1e9 * row.least() / edges as f64);
-        let (name, median) = (row.name, 1e3 * row.median());
-        println!("{name:<52}  {:8.2}  {median:8.2}  {each:7.2}  {:5.2}", 1e3 * least, least / original);
+    for (row, total) in rows.iter().zip(&totals) {
+        let (each, ratio) = (1e9 * total / edges as f64, total / totals[0]);
+        println!("{:<54}  {:8.2}  {each:7.2}  {ratio:6.2}", row.name, 1e3 * total);
     }
-}
-
-/// Each word's lattice with all scores, and with its own.
-fn lend<'a>(cache: &'a Cache, scores: &'a [f64], own: &'a [Own], excluded: Vec<u32>) -> [Lent<'a>; 2] {
-    let word = |index: usize| {
-        let word = cache.word(index).unwrap();
-        Word { offsets: word.offsets(), starts: word.starts(), ids: word.ids(), n: word.characters() }
-    };
-    let alone = Lent {
-        words: own.iter().enumerate().map(|(index, own)| (Word { ids: &own.ids, ..word(index) }, &own.scores[..])).collect(),
-        excluded: excluded.iter().zip(own).map(|(id, own)| own.known[id]).collect(),
-    };
-    let all = Lent { words: (0..cache.len()).map(|index| (word(index), scores)).collect(), excluded };
-    [all, alone]
 }
 
 fn main() {
     let words = words(&mut Random(1));
     let pieces = pieces(&words);
-    let word_texts: Vec<&str> = words.iter().map(String::as_str).collect();
-    let piece_texts: Vec<&str> = pieces.iter().map(String::as_str).collect();
-    let word_bytes: Vec<&[u8]> = words.iter().map(String::as_bytes).collect();
-    let piece_bytes: Vec<&[u8]> = pieces.iter().map(String::as_bytes).collect();
-    let cache = Cache::build(SETTING, &word_bytes, &piece_bytes).unwrap();
-    let theirs = original::build(&word_texts, &piece_texts);
-    let stocked = stock::build(&word_texts, &piece_texts);
+    let parts: Vec<Part> = words.chunks(PART).map(|words| Part::of(words, &pieces)).collect();
 
     // An edge more of each piece than there is, so that none has the part 0.
     let mut counts = vec![1.0; pieces.len()];
-    cache.lattices().for_each(|word| word.ids().iter().for_each(|id| counts[*id as usize] += 1.0));
+    let lattices = || parts.iter().flat_map(|part| part.cache.lattices());
+    lattices().for_each(|word| word.ids().iter().for_each(|id| counts[*id as usize] += 1.0));
     let total: f64 = counts.iter().sum();
     let scores: Vec<f64> = counts.iter().map(|count| f64::ln(count / total)).collect();
-    let first = |word: causeylark::Lattice<'_>| match word.viterbi(&scores) {
-        Cut::Pieces { ids, .. } => ids[0],
-        other => panic!("a word with no cut: {other:?}"),
-    };
-    let excluded: Vec<u32> = cache.lattices().map(first).collect();
+    let slots = 1 + lattices().map(|word| word.characters()).max().unwrap();
+    let characters: usize = lattices().map(|word| word.characters()).sum();
+    let parts: Vec<Part> = parts.into_iter().map(|part| part.scored(&scores)).collect();
 
-    let own = own_pieces(&cache, &scores);
-    let [all, alone] = &lend(&cache, &scores, &own, excluded.clone());
-    let slots = 1 + cache.lattices().map(|word| word.characters()).max().unwrap();
+    let (parts, scores) = (&parts[..], &scores[..]);
+    let edges: usize = parts.iter().map(|part| part.cache.edges()).sum();
+    let own: usize = parts.iter().flat_map(|part| &part.own).map(|own| own.scores.len()).sum();
+    println!(
+        "{} words, {characters} characters, {} pieces, {edges} edges; {} pieces a word; {ROUNDS} rounds",
+        words.len(),
+        pieces.len(),
+        own / words.len(),
+    );
+    println!("{:<54}  {:>8}  {:>7}  {:>6}", "what", "least, ms", "ns/edge", "ratio");
+
+    let all: &Vec<Lent<'_>> = &parts.iter().map(|part| part.all(scores)).collect();
+    let alone: &Vec<Lent<'_>> = &parts.iter().map(Part::alone).collect();
     let work = &RefCell::new(Work::of(slots));
     let ours = |call: fn(&Lent<'_>, &mut Work, &mut Answers), lent| {
-        move |answers: &mut Answers| call(black_box(lent), &mut work.borrow_mut(), answers)
+        let lent: &Vec<Lent<'_>> = lent;
+        move |part: usize, answers: &mut Answers| call(black_box(&lent[part]), &mut work.borrow_mut(), answers)
     };
-    let (edges, blank) = (cache.edges(), Answers::of(words.len(), cache.edges()));
-    let mean = own.iter().map(|own| own.scores.len()).sum::<usize>() / own.len();
-    println!(
-        "{} words, {} characters, {} pieces, {edges} edges; {mean} pieces a word; {ROUNDS} rounds",
-        words.len(),
-        cache.lattices().map(|word| word.characters()).sum::<usize>(),
-        pieces.len(),
-    );
-    println!("{:<52}  {:>8}  {:>8}  {:>7}  {:>5}", "what", "least, ms", "median", "ns/edge", "ratio");
-    let scores = &scores;
-    let rows = vec![
-        Row::new("expectations, original, our mathematics", |answers| original::expectations(&theirs, scores, answers)),
-        Row::new("expectations, original, stock mathematics", |answers| stock::expectations(&stocked, scores, answers)),
+    let rows = [
+        Row::new("expectations, original, our mathematics", |part, answers| {
+            original::expectations(&parts[part].original, scores, answers)
+        }),
+        Row::new("expectations, original, stock mathematics", |part, answers| {
+            stock::expectations(&parts[part].stock, scores, answers)
+        }),
         Row::new("expectations, ours, core", ours(core_expectations, all)),
         Row::new("expectations, ours, call, each word's own scores", ours(call_expectations, alone)),
         Row::new("expectations, ours, call, all scores", ours(call_expectations, all)),
     ];
-    measure(rows, edges, &blank);
-    let rows = vec![
-        Row::new("viterbi, original", |answers| original::viterbi(&theirs, scores, answers)),
+    measure(&rows, parts, edges);
+    let rows = [
+        Row::new("viterbi, original", |part, answers| original::viterbi(&parts[part].original, scores, answers)),
         Row::new("viterbi, ours, core", ours(core_viterbi, all)),
         Row::new("viterbi, ours, call, all scores", ours(call_viterbi, all)),
     ];
-    measure(rows, edges, &blank);
-    let rows = vec![
-        Row::new("viterbi_excluding, original", |answers| {
-            original::excluding(&theirs, scores, &excluded, answers)
+    measure(&rows, parts, edges);
+    // Ids that are renumbered make other paths: these are compared with each other.
+    let rows = [
+        Row::new("viterbi, ours, core, each word's own scores", ours(core_viterbi, alone)),
+        Row::new("viterbi, ours, call, each word's own scores", ours(call_viterbi, alone)),
+    ];
+    measure(&rows, parts, edges);
+    let rows = [
+        Row::new("viterbi_excluding, original", |part, answers| {
+            original::excluding(&parts[part].original, scores, &parts[part].excluded, answers)
         }),
         Row::new("viterbi_excluding, ours, core", ours(core_excluding, all)),
         Row::new("viterbi_excluding, ours, call, each word's own scores", ours(call_excluding, alone)),
         Row::new("viterbi_excluding, ours, call, all scores", ours(call_excluding, all)),
     ];
-    measure(rows, edges, &blank);
-    // Renumbered ids are other paths, so these are compared with none but their own core.
-    let rows = vec![
-        Row::new("viterbi, ours, core, each word's own scores", ours(core_viterbi, alone)),
-        Row::new("viterbi, ours, call, each word's own scores", ours(call_viterbi, alone)),
-    ];
-    measure(rows, edges, &blank);
+    measure(&rows, parts, edges);
 }
