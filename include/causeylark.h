@@ -148,9 +148,7 @@ uint32_t causeylark_retain(uint32_t *offsets, size_t offset_slots,
    Checks in this order: BAD_LATTICE, BAD_SCORE, NO_ROOM at 3, NO_ROOM at 4, NO_PATH. */
 
 /* The best cut: sum[0] is its score, told[0] how many pieces it has, and their ids stand in front of path, which has n slots or
-   more. The other slots of path are kept. Of equal cuts the earliest start at each position wins.
-
-   A path of 32 slots that hold zeros is what the form for short words returns by value: C returns no array. */
+   more. The other slots of path are kept. Of equal cuts the earliest start at each position wins. */
 uint32_t causeylark_viterbi(const uint32_t *offsets, size_t offset_count,
                             const uint32_t *starts, size_t start_count,
                             const uint32_t *ids, size_t id_count,
@@ -161,6 +159,25 @@ uint32_t causeylark_viterbi(const uint32_t *offsets, size_t offset_count,
                             uint32_t *path, size_t path_slots,
                             double *sum, size_t sum_slots,
                             uint64_t *told, size_t told_slots);
+
+/* The same for a word of at most 32 characters, by value. A longer one has NO_ROOM at 4. */
+struct causeylark_short {
+    /* The score; +0 after a refusal. */
+    double score;
+    /* How many pieces, or the refusal's place. */
+    uint64_t told;
+    /* CAUSEYLARK_ACCEPTED, or the refusal. */
+    uint32_t number;
+    /* The pieces; unused ids are 0, all of them after a refusal. */
+    uint32_t ids[32];
+};
+struct causeylark_short causeylark_viterbi_short(const uint32_t *offsets, size_t offset_count,
+                                                 const uint32_t *starts, size_t start_count,
+                                                 const uint32_t *ids, size_t id_count,
+                                                 size_t n,
+                                                 const double *scores, size_t score_count,
+                                                 double *best, size_t best_slots,
+                                                 uint32_t *back, size_t back_slots);
 
 /* The best score without ever using the piece `excluded`: sum[0], minus infinity where nothing else spells the word. told[0] is
    0. There is no NO_ROOM at 4 and no NO_PATH. */

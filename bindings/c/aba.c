@@ -33,6 +33,11 @@ static int cut(void) {
     printf("\n");
     if (said != CAUSEYLARK_ACCEPTED || told[0] != 2 || sum[0] != -3 || path[0] != 0 || path[1] != 3) return 1;
 
+    struct causeylark_short brief = causeylark_viterbi_short(offsets, 5, starts, 5, ids, 5, 3, scores, 4, best, 4, back, 4);
+    printf("viterbi_short: %u, told %u; score %g; path %u %u\n", (unsigned)brief.number, (unsigned)brief.told, brief.score,
+           (unsigned)brief.ids[0], (unsigned)brief.ids[1]);
+    if (brief.number != CAUSEYLARK_ACCEPTED || brief.told != 2 || brief.score != -3 || brief.ids[1] != 3 || brief.ids[2]) return 1;
+
     said = causeylark_viterbi_excluding(offsets, 5, starts, 5, ids, 5, 3, scores, 4, 0, best, 4, sum, 1, told, 1);
     printf("viterbi_excluding: %u; score without a %g\n", (unsigned)said, sum[0]);
     if (said != CAUSEYLARK_ACCEPTED || sum[0] > -1e308) return 1;

@@ -122,7 +122,12 @@ struct Work {
 
 impl Work {
     fn of(slots: usize) -> Work {
-        Work { floats: vec![0.0; slots], more: vec![0.0; slots], numbers: vec![0; slots], path: vec![0; slots] }
+        Work {
+            floats: vec![0.0; slots],
+            more: vec![0.0; slots],
+            numbers: vec![0; slots],
+            path: vec![0; slots],
+        }
     }
 }
 
@@ -216,7 +221,8 @@ fn call_expectations(lent: &Lent<'_>, work: &mut Work, answers: &mut Answers) {
     for ((word, scores), sum) in lent.words.iter().zip(&mut answers.sums) {
         let (to, slots) = (from + word.starts.len(), word.n + 1);
         let (alpha, beta) = (&mut work.floats[..slots], &mut work.more[..slots]);
-        *sum = slices::expectations(*word, scores, alpha, beta, &mut answers.entries[from..to]).unwrap();
+        *sum = slices::expectations(*word, scores, alpha, beta, &mut answers.entries[from..to])
+            .unwrap();
         from = to;
     }
 }
@@ -265,7 +271,12 @@ macro_rules! original {
             }
 
             #[allow(dead_code)]
-            pub fn excluding(cache: &::$name::Cache, scores: &[f64], excluded: &[u32], answers: &mut Answers) {
+            pub fn excluding(
+                cache: &::$name::Cache,
+                scores: &[f64],
+                excluded: &[u32],
+                answers: &mut Answers,
+            ) {
                 cache.viterbi_excluding(scores, excluded, &mut answers.without);
             }
         }
@@ -338,20 +349,46 @@ impl Part {
 
     fn word(&self, index: usize) -> Word<'_> {
         let word = self.cache.word(index).unwrap();
-        Word { offsets: word.offsets(), starts: word.starts(), ids: word.ids(), n: word.characters() }
+        Word {
+            offsets: word.offsets(),
+            starts: word.starts(),
+            ids: word.ids(),
+            n: word.characters(),
+        }
     }
 
     /// Each word's lattice with all scores.
     fn all<'a>(&'a self, scores: &'a [f64]) -> Lent<'a> {
-        let words = (0..self.cache.len()).map(|index| (self.word(index), scores)).collect();
-        Lent { words, excluded: self.excluded.clone() }
+        let words = (0..self.cache.len())
+            .map(|index| (self.word(index), scores))
+            .collect();
+        Lent {
+            words,
+            excluded: self.excluded.clone(),
+        }
     }
 
     /// Each word's lattice with its own scores.
     fn alone(&self) -> Lent<'_> {
-        let word = |index: usize| (Word { ids: &self.own[index].ids, ..self.word(index) }, &self.own[index].scores[..]);
-        let excluded = self.excluded.iter().zip(&self.own).map(|(id, own)| own.known[id]).collect();
-        Lent { words: (0..self.own.len()).map(word).collect(), excluded }
+        let word = |index: usize| {
+            (
+                Word {
+                    ids: &self.own[index].ids,
+                    ..self.word(index)
+                },
+                &self.own[index].scores[..],
+            )
+        };
+        let excluded = self
+            .excluded
+            .iter()
+            .zip(&self.own)
+            .map(|(id, own)| own.known[id])
+            .collect();
+        Lent {
+            words: (0..self.own.len()).map(word).collect(),
+            excluded,
+        }
     }
 }
 
@@ -383,25 +420,43 @@ fn measure(rows: &[Row<'_>], parts: &[Part], edges: usize) {
         for round in 0..=ROUNDS {
             for ((row, answers), least) in rows.iter().zip(&mut answers).zip(&mut least) {
                 let time = row.time(at, answers);
-                *least = if round == 0 { f64::INFINITY } else { least.min(time) };
+                *least = if round == 0 {
+                    f64::INFINITY
+                } else {
+                    least.min(time)
+                };
             }
         }
         for (row, other) in rows.iter().zip(&answers) {
             let alike = other.bits() == answers[0].bits() && other.paths == answers[0].paths;
-            assert!(alike || row.name.contains("stock"), "{}: not the original's answers", row.name);
+            assert!(
+                alike || row.name.contains("stock"),
+                "{}: not the original's answers",
+                row.name
+            );
         }
-        totals.iter_mut().zip(least).for_each(|(total, least)| *total += least);
+        totals
+            .iter_mut()
+            .zip(least)
+            .for_each(|(total, least)| *total += least);
     }
     for (row, total) in rows.iter().zip(&totals) {
         let (each, ratio) = (1e9 * total / edges as f64, total / totals[0]);
-        println!("{:<54}  {:8.2}  {each:7.2}  {ratio:6.2}", row.name, 1e3 * total);
+        println!(
+            "{:<54}  {:8.2}  {each:7.2}  {ratio:6.2}",
+            row.name,
+            1e3 * total
+        );
     }
 }
 
 fn main() {
     let words = words(&mut Random(1));
     let pieces = pieces(&words);
-    let parts: Vec<Part> = words.chunks(PART).map(|words| Part::of(words, &pieces)).collect();
+    let parts: Vec<Part> = words
+        .chunks(PART)
+        .map(|words| Part::of(words, &pieces))
+        .collect();
 
     // An edge more of each piece than there is, so that none has the part 0.
     let mut counts = vec![1.0; pieces.len()];
@@ -415,53 +470,89 @@ fn main() {
 
     let (parts, scores) = (&parts[..], &scores[..]);
     let edges: usize = parts.iter().map(|part| part.cache.edges()).sum();
-    let own: usize = parts.iter().flat_map(|part| &part.own).map(|own| own.scores.len()).sum();
+    let own: usize = parts
+        .iter()
+        .flat_map(|part| &part.own)
+        .map(|own| own.scores.len())
+        .sum();
     println!(
         "{} words, {characters} characters, {} pieces, {edges} edges; {} pieces a word; {ROUNDS} rounds",
         words.len(),
         pieces.len(),
         own / words.len(),
     );
-    println!("{:<54}  {:>8}  {:>7}  {:>6}", "what", "least, ms", "ns/edge", "ratio");
+    println!(
+        "{:<54}  {:>8}  {:>7}  {:>6}",
+        "what", "least, ms", "ns/edge", "ratio"
+    );
 
     let all: &Vec<Lent<'_>> = &parts.iter().map(|part| part.all(scores)).collect();
     let alone: &Vec<Lent<'_>> = &parts.iter().map(Part::alone).collect();
     let work = &RefCell::new(Work::of(slots));
     let ours = |call: fn(&Lent<'_>, &mut Work, &mut Answers), lent| {
         let lent: &Vec<Lent<'_>> = lent;
-        move |part: usize, answers: &mut Answers| call(black_box(&lent[part]), &mut work.borrow_mut(), answers)
+        move |part: usize, answers: &mut Answers| {
+            call(black_box(&lent[part]), &mut work.borrow_mut(), answers)
+        }
     };
     let rows = [
-        Row::new("expectations, original, our mathematics", |part, answers| {
-            original::expectations(&parts[part].original, scores, answers)
-        }),
-        Row::new("expectations, original, stock mathematics", |part, answers| {
-            stock::expectations(&parts[part].stock, scores, answers)
-        }),
+        Row::new(
+            "expectations, original, our mathematics",
+            |part, answers| original::expectations(&parts[part].original, scores, answers),
+        ),
+        Row::new(
+            "expectations, original, stock mathematics",
+            |part, answers| stock::expectations(&parts[part].stock, scores, answers),
+        ),
         Row::new("expectations, ours, core", ours(core_expectations, all)),
-        Row::new("expectations, ours, call, each word's own scores", ours(call_expectations, alone)),
-        Row::new("expectations, ours, call, all scores", ours(call_expectations, all)),
+        Row::new(
+            "expectations, ours, call, each word's own scores",
+            ours(call_expectations, alone),
+        ),
+        Row::new(
+            "expectations, ours, call, all scores",
+            ours(call_expectations, all),
+        ),
     ];
     measure(&rows, parts, edges);
     let rows = [
-        Row::new("viterbi, original", |part, answers| original::viterbi(&parts[part].original, scores, answers)),
+        Row::new("viterbi, original", |part, answers| {
+            original::viterbi(&parts[part].original, scores, answers)
+        }),
         Row::new("viterbi, ours, core", ours(core_viterbi, all)),
         Row::new("viterbi, ours, call, all scores", ours(call_viterbi, all)),
     ];
     measure(&rows, parts, edges);
     // Ids that are renumbered make other paths: these are compared with each other.
     let rows = [
-        Row::new("viterbi, ours, core, each word's own scores", ours(core_viterbi, alone)),
-        Row::new("viterbi, ours, call, each word's own scores", ours(call_viterbi, alone)),
+        Row::new(
+            "viterbi, ours, core, each word's own scores",
+            ours(core_viterbi, alone),
+        ),
+        Row::new(
+            "viterbi, ours, call, each word's own scores",
+            ours(call_viterbi, alone),
+        ),
     ];
     measure(&rows, parts, edges);
     let rows = [
         Row::new("viterbi_excluding, original", |part, answers| {
-            original::excluding(&parts[part].original, scores, &parts[part].excluded, answers)
+            original::excluding(
+                &parts[part].original,
+                scores,
+                &parts[part].excluded,
+                answers,
+            )
         }),
         Row::new("viterbi_excluding, ours, core", ours(core_excluding, all)),
-        Row::new("viterbi_excluding, ours, call, each word's own scores", ours(call_excluding, alone)),
-        Row::new("viterbi_excluding, ours, call, all scores", ours(call_excluding, all)),
+        Row::new(
+            "viterbi_excluding, ours, call, each word's own scores",
+            ours(call_excluding, alone),
+        ),
+        Row::new(
+            "viterbi_excluding, ours, call, all scores",
+            ours(call_excluding, all),
+        ),
     ];
     measure(&rows, parts, edges);
 }

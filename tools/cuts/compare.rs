@@ -1,7 +1,7 @@
 //! Do the proved cuts, expectations and refusals agree with the Rust original, and with document 01?
 //!
 //! A case is a few words of eight scripts over a list of distinct pieces, and scores of one kind or of several. Each word's
-//! lattice goes through the four calls. What they answer has to be what the original answers with our mathematics, bit for
+//! lattice goes through the five calls. What they answer has to be what the original answers with our mathematics, bit for
 //! bit: the best cut's score and path, the best score without a piece, whether there is a cut, the sum over all cuts and
 //! every edge's expectation. Then what is lent is damaged, and plain.rs works out which refusal should come of it, at which
 //! place; where none should, the original is asked again.
@@ -35,7 +35,7 @@ const SHOWN: usize = 10;
 
 /// What has to come at least once, in as many cases as this.
 const ENOUGH: usize = 2_000;
-const CALLS: [&str; 4] = ["viterbi", "excluding", "connected", "expectations"];
+const CALLS: [&str; 5] = ["viterbi", "excluding", "connected", "expectations", "short"];
 /// Of every call.
 const FORMED: [(u32, &str); 8] = [
     (0, "accepted"),
@@ -47,7 +47,7 @@ const FORMED: [(u32, &str); 8] = [
     (9, "a start not before its end"),
     (9, "starts that do not rise"),
 ];
-const OTHERS: [(&str, u32, &str); 19] = [
+const OTHERS: [(&str, u32, &str); 26] = [
     ("viterbi", 9, "an id with no score"),
     ("viterbi", 10, "NaN"),
     ("viterbi", 10, "above zero"),
@@ -56,6 +56,13 @@ const OTHERS: [(&str, u32, &str); 19] = [
     ("viterbi", 7, "room 4, path"),
     ("viterbi", 11, "no finite sum"),
     ("viterbi", 0, "an empty word"),
+    ("short", 9, "an id with no score"),
+    ("short", 10, "NaN"),
+    ("short", 10, "above zero"),
+    ("short", 7, "room 3, best"),
+    ("short", 7, "room 3, back"),
+    ("short", 7, "room 4, path"),
+    ("short", 11, "no finite sum"),
     ("excluding", 9, "an id with no score"),
     ("excluding", 10, "NaN"),
     ("excluding", 10, "above zero"),
@@ -102,6 +109,19 @@ fn word(lent: &Lent) -> Word<'_> {
         starts: &lent.starts,
         ids: &lent.ids,
         n: lent.n,
+    }
+}
+
+/// The best cut, or the first refusal that applies.
+fn best_cut(lent: &Lent, rooms: &Rooms) -> Wanted<u32> {
+    let edges = refusals::viterbi(lent, rooms)?;
+    match original(lent, &edges).viterbi(&lent.scores) {
+        Some((score, path)) => Ok((score, path.len(), path)),
+        None => Err(No {
+            number: 11,
+            place: 0,
+            why: "no finite sum",
+        }),
     }
 }
 
@@ -160,12 +180,20 @@ impl Comparison {
         }
         let (before, after) = results;
         let front = wanted.as_ref().map_or(&[][..], |(_, _, front)| front);
-        let left: Vec<T> = front.iter().chain(before.iter().skip(front.len())).copied().collect();
+        let left: Vec<T> = front
+            .iter()
+            .chain(before.iter().skip(front.len()))
+            .copied()
+            .collect();
         if left != after {
             self.difference(&format!("{call}, the results after {why}"), left, after);
         }
         if !clear {
-            self.difference(&format!("{call}, a work slice after {why}"), "zeros", "other");
+            self.difference(
+                &format!("{call}, a work slice after {why}"),
+                "zeros",
+                "other",
+            );
         }
     }
 
@@ -174,15 +202,32 @@ impl Comparison {
         let before = self.junk(rooms.path);
         let mut path = before.clone();
         let said = slices::viterbi(word(lent), &lent.scores, &mut best, &mut back, &mut path);
-        let wanted = refusals::viterbi(lent, rooms).and_then(|edges| {
-            match original(lent, &edges).viterbi(&lent.scores) {
-                Some((score, path)) => Ok((score, path.len(), path)),
-                None => Err(No { number: 11, place: 0, why: "no finite sum" }),
-            }
-        });
+        let wanted = best_cut(lent, rooms);
         self.cuts += usize::from(wanted.is_ok());
         let good = if lent.n == 0 { "an empty word" } else { good };
-        self.judge(CALLS[0], good, &wanted, said, (&before, &path), zeros(&best, &back));
+        self.judge(
+            CALLS[0],
+            good,
+            &wanted,
+            said,
+            (&before, &path),
+            zeros(&best, &back),
+        );
+    }
+
+    /// The same with 32 slots that hold zeros, by value.
+    fn short(&mut self, good: &'static str, lent: &Lent, rooms: &Rooms) {
+        let (mut best, mut back) = (self.junk_floats(rooms.best), self.junk(rooms.back));
+        let short = slices::viterbi_short(word(lent), &lent.scores, &mut best, &mut back);
+        let wanted = best_cut(lent, &Rooms { path: 32, ..*rooms });
+        self.judge(
+            CALLS[4],
+            good,
+            &wanted,
+            short.answer,
+            (&[0; 32], &short.ids),
+            zeros(&best, &back),
+        );
     }
 
     fn excluding(&mut self, good: &'static str, lent: &Lent, rooms: &Rooms) {
@@ -203,17 +248,35 @@ impl Comparison {
     fn connected(&mut self, good: &'static str, lent: &Lent, rooms: &Rooms) {
         let mut reach = self.junk(rooms.reach);
         let said = slices::is_connected(word(lent), &mut reach);
-        let wanted = refusals::is_connected(lent, rooms)
-            .map(|edges| (0.0, usize::from(original(lent, &edges).is_connected()), Vec::<u32>::new()));
+        let wanted = refusals::is_connected(lent, rooms).map(|edges| {
+            (
+                0.0,
+                usize::from(original(lent, &edges).is_connected()),
+                Vec::<u32>::new(),
+            )
+        });
         let said = said.map(|cuts| (0.0, usize::from(cuts)));
-        self.judge(CALLS[2], good, &wanted, said, (&[], &[]), zeros(&[], &reach));
+        self.judge(
+            CALLS[2],
+            good,
+            &wanted,
+            said,
+            (&[], &[]),
+            zeros(&[], &reach),
+        );
     }
 
     fn expectations(&mut self, good: &'static str, lent: &Lent, rooms: &Rooms) {
         let (mut alpha, mut beta) = (self.junk_floats(rooms.alpha), self.junk_floats(rooms.beta));
         let before = self.junk_floats(rooms.emitted);
         let mut emitted = before.clone();
-        let said = slices::expectations(word(lent), &lent.scores, &mut alpha, &mut beta, &mut emitted);
+        let said = slices::expectations(
+            word(lent),
+            &lent.scores,
+            &mut alpha,
+            &mut beta,
+            &mut emitted,
+        );
         let wanted = refusals::expectations(lent, rooms).map(|edges| {
             let (z, entries) = original(lent, &edges).expectations(&lent.scores);
             (z, 0, bits(&entries))
@@ -221,11 +284,19 @@ impl Comparison {
         self.edges += wanted.as_ref().map_or(0, |(_, _, entries)| entries.len());
         let said = said.map(|sum| (sum, 0));
         let clear = zeros(&alpha, &[]) && zeros(&beta, &[]);
-        self.judge(CALLS[3], good, &wanted, said, (&bits(&before), &bits(&emitted)), clear);
+        self.judge(
+            CALLS[3],
+            good,
+            &wanted,
+            said,
+            (&bits(&before), &bits(&emitted)),
+            clear,
+        );
     }
 
     fn all(&mut self, good: &'static str, lent: &Lent, rooms: &Rooms) {
         self.viterbi(good, lent, rooms);
+        self.short(good, lent, rooms);
         self.excluding(good, lent, rooms);
         self.connected(good, lent, rooms);
         self.expectations(good, lent, rooms);
@@ -258,7 +329,9 @@ impl Comparison {
         for ((call, number, why), count) in &self.counts {
             println!("{count:>9}  {call:<12}  {number:>2}  {why}");
         }
-        let every = CALLS.iter().flat_map(|call| FORMED.map(|(number, why)| (*call, number, why)));
+        let every = CALLS
+            .iter()
+            .flat_map(|call| FORMED.map(|(number, why)| (*call, number, why)));
         for kind in every.chain(OTHERS) {
             if cases >= ENOUGH && !self.counts.contains_key(&kind) {
                 self.difference("never came", kind, "none");

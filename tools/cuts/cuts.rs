@@ -108,7 +108,15 @@ pub fn damage(random: &mut Random, lent: &mut Lent, rooms: &mut Rooms) {
         }
         7 => cut(random, &mut lent.ids),
         8 => lent.offsets.extend(lent.offsets.last().copied()),
-        9 => lent.n = random.pick(&[lent.n + 1, lent.n.saturating_sub(1), 0, usize::MAX, usize::MAX - 1]),
+        9 => {
+            lent.n = random.pick(&[
+                lent.n + 1,
+                lent.n.saturating_sub(1),
+                0,
+                usize::MAX,
+                usize::MAX - 1,
+            ])
+        }
         10 => cut(random, &mut lent.scores),
         11 | 12 => spoil_score(random, &mut lent.scores),
         13 => shorten(random, &mut rooms.best),

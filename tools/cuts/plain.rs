@@ -41,7 +41,13 @@ pub type Edge = (u32, u32, u32);
 
 /// The edges of a lattice where ids below `pieces` have a score, or why it is not well formed.
 fn read(lent: &Lent, pieces: usize) -> Result<Vec<Edge>, &'static str> {
-    let Lent { offsets, starts, ids, n, .. } = lent;
+    let Lent {
+        offsets,
+        starts,
+        ids,
+        n,
+        ..
+    } = lent;
     if offsets.len() < 2 || offsets.len() - 2 != *n {
         return Err("not n + 2 offsets");
     }

@@ -4,6 +4,20 @@
 //! Nothing is demanded of numbers, so the functions of numbers are safe. The others are unsafe for
 //! one reason: a pointer and a count have to be a slice.
 
+/// What `causeylark_viterbi_short` returns.
+#[repr(C)]
+#[derive(Clone, Copy, Debug, PartialEq)]
+pub struct Short {
+    /// The score; +0 after a refusal.
+    pub score: f64,
+    /// How many pieces, or the refusal's place.
+    pub told: u64,
+    /// 0, or the refusal's number.
+    pub number: u32,
+    /// The pieces; unused ids are 0.
+    pub ids: [u32; 32],
+}
+
 unsafe extern "C" {
     /// e^x.
     pub safe fn causeylark_exp(x: f64) -> f64;
@@ -83,6 +97,23 @@ unsafe extern "C" {
         told: *mut u64,
         told_slots: usize,
     ) -> u32;
+
+    /// The best cut of a lattice of at most 32 characters, by value.
+    pub fn causeylark_viterbi_short(
+        offsets: *const u32,
+        offset_count: usize,
+        starts: *const u32,
+        start_count: usize,
+        ids: *const u32,
+        id_count: usize,
+        n: usize,
+        scores: *const f64,
+        score_count: usize,
+        best: *mut f64,
+        best_slots: usize,
+        back: *mut u32,
+        back_slots: usize,
+    ) -> Short;
 
     /// The best score of one word's lattice without a piece.
     pub fn causeylark_viterbi_excluding(

@@ -161,6 +161,42 @@ pub fn viterbi(
     answer(number, told[0]).map(|count| (sum[0], count))
 }
 
+/// A short word's best cut by value.
+#[derive(Clone, Copy, Debug, PartialEq)]
+pub struct Short {
+    /// Its score and how many pieces it has, or why there is none.
+    pub answer: Result<(f64, usize), Refusal>,
+    /// The ids of the pieces. Unused ids are 0, and so are all where there is no cut.
+    pub ids: [u32; 32],
+}
+
+/// The best cut of a word of at most 32 characters, with its path by value. A longer word is refused by
+/// `NoRoom(4)`. The work slices have n + 1 slots each.
+pub fn viterbi_short(word: Word<'_>, scores: &[f64], best: &mut [f64], back: &mut [u32]) -> Short {
+    // SAFETY: each pointer and count is a slice, and no two that are written to overlap.
+    let short = unsafe {
+        c::causeylark_viterbi_short(
+            word.offsets.as_ptr(),
+            word.offsets.len(),
+            word.starts.as_ptr(),
+            word.starts.len(),
+            word.ids.as_ptr(),
+            word.ids.len(),
+            word.n,
+            scores.as_ptr(),
+            scores.len(),
+            best.as_mut_ptr(),
+            best.len(),
+            back.as_mut_ptr(),
+            back.len(),
+        )
+    };
+    Short {
+        answer: answer(short.number, short.told).map(|count| (short.score, count)),
+        ids: short.ids,
+    }
+}
+
 /// The best score without a piece, minus infinity where nothing else spells the word. The work slice
 /// has n + 1 slots.
 pub fn viterbi_excluding(

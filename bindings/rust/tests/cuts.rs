@@ -17,7 +17,10 @@ fn pieces(ids: &[u32], score: f64) -> Cut {
 /// Scores -1 -1 -2 -2: aba gives 0, 3 and -3.
 #[test]
 fn the_earliest_start_wins() {
-    assert_eq!(aba().word(0).unwrap().viterbi(&SCORES), pieces(&[0, 3], -3.0));
+    assert_eq!(
+        aba().word(0).unwrap().viterbi(&SCORES),
+        pieces(&[0, 3], -3.0)
+    );
 }
 
 /// Word ab, only a and b, each -1.7e308: NoPath; with ab at -3: that piece.
@@ -25,9 +28,15 @@ fn the_earliest_start_wins() {
 fn no_finite_sum() {
     let cache = Cache::build(16, &[b"ab"], &PIECES[..3]).unwrap();
     let word = cache.word(0).unwrap();
-    assert_eq!(word.viterbi(&[-1.7e308, -1.7e308, -3.0]), pieces(&[2], -3.0));
+    assert_eq!(
+        word.viterbi(&[-1.7e308, -1.7e308, -3.0]),
+        pieces(&[2], -3.0)
+    );
     let two = Cache::build(16, &[b"ab"], &PIECES[..2]).unwrap();
-    assert_eq!(two.word(0).unwrap().viterbi(&[-1.7e308; 2]), Cut::Refused(Refusal::NoPath));
+    assert_eq!(
+        two.word(0).unwrap().viterbi(&[-1.7e308; 2]),
+        Cut::Refused(Refusal::NoPath)
+    );
 }
 
 #[test]
@@ -43,10 +52,21 @@ fn the_empty_word() {
 #[test]
 fn without_a_piece() {
     let cache = Cache::build(16, &[b"ab"], &PIECES).unwrap();
-    let without = |id| cache.word(0).unwrap().viterbi_excluding(&[-1.0, -1.0, -5.0, -1.0], id);
-    assert_eq!([0, 1, 2, 9].map(without), [Ok(-5.0), Ok(-5.0), Ok(-2.0), Ok(-2.0)]);
+    let without = |id| {
+        cache
+            .word(0)
+            .unwrap()
+            .viterbi_excluding(&[-1.0, -1.0, -5.0, -1.0], id)
+    };
+    assert_eq!(
+        [0, 1, 2, 9].map(without),
+        [Ok(-5.0), Ok(-5.0), Ok(-2.0), Ok(-2.0)]
+    );
     let alone = Cache::build(16, &[b"a"], &PIECES[..1]).unwrap();
-    assert_eq!(alone.word(0).unwrap().viterbi_excluding(&[-1.0], 0), Ok(f64::NEG_INFINITY));
+    assert_eq!(
+        alone.word(0).unwrap().viterbi_excluding(&[-1.0], 0),
+        Ok(f64::NEG_INFINITY)
+    );
 }
 
 #[test]
@@ -81,17 +101,28 @@ fn refusals() {
     refused(&SCORES[..3], Refusal::BadLattice(0));
     refused(&[-1.0, f64::NAN, -2.0, 1.0], Refusal::BadScore(1));
     refused(&[-1.0, -1.0, -2.0, -2.0, 5e-324], Refusal::BadScore(4));
-    assert_eq!(word.viterbi(&[f64::NEG_INFINITY; 4]), Cut::Refused(Refusal::NoPath));
+    assert_eq!(
+        word.viterbi(&[f64::NEG_INFINITY; 4]),
+        Cut::Refused(Refusal::NoPath)
+    );
     let Cut::Refused(refusal) = word.viterbi(&[0.5; 4]) else {
         panic!("a score above zero");
     };
-    assert_eq!((refusal.name(), refusal.number(), refusal.place()), ("BadScore", 10, 0));
+    assert_eq!(
+        (refusal.name(), refusal.number(), refusal.place()),
+        ("BadScore", 10, 0)
+    );
 }
 
 /// Slices lent by hand: each room one slot short, and what is kept.
 #[test]
 fn lent_by_hand() {
-    let word = slices::Word { offsets: &[0, 0, 1, 3, 5], starts: &[0, 0, 1, 1, 2], ids: &[0, 2, 1, 3, 0], n: 3 };
+    let word = slices::Word {
+        offsets: &[0, 0, 1, 3, 5],
+        starts: &[0, 0, 1, 1, 2],
+        ids: &[0, 2, 1, 3, 0],
+        n: 3,
+    };
     let call = |best: usize, back: usize, path: usize| {
         let (mut best, mut back, mut path) = (vec![1.5; best], vec![7; back], vec![9; path]);
         let said = slices::viterbi(word, &SCORES, &mut best, &mut back, &mut path);
@@ -102,14 +133,56 @@ fn lent_by_hand() {
     assert_eq!(call(4, 3, 0), (Err(Refusal::NoRoom(3)), vec![]));
     assert_eq!(call(4, 4, 2), (Err(Refusal::NoRoom(4)), vec![9; 2]));
     assert_eq!(call(9, 5, 4), (Ok((-3.0, 2)), vec![0, 3, 9, 9]));
-    assert_eq!(slices::is_connected(word, &mut [7; 3]), Err(Refusal::NoRoom(3)));
-    assert_eq!(slices::is_connected(slices::Word { n: 2, ..word }, &mut [7; 9]), Err(Refusal::BadLattice(0)));
+    assert_eq!(
+        slices::is_connected(word, &mut [7; 3]),
+        Err(Refusal::NoRoom(3))
+    );
+    assert_eq!(
+        slices::is_connected(slices::Word { n: 2, ..word }, &mut [7; 9]),
+        Err(Refusal::BadLattice(0))
+    );
     let (mut alpha, mut beta, mut emitted) = ([1.5; 4], [1.5; 4], [7.0; 6]);
     let short = slices::expectations(word, &SCORES, &mut alpha, &mut beta, &mut emitted[..4]);
     assert_eq!((short, emitted), (Err(Refusal::NoRoom(3)), [7.0; 6]));
     let long = slices::expectations(word, &SCORES, &mut alpha, &mut beta, &mut emitted);
     assert!(long.is_ok() && emitted[4] < 1.0 && emitted[5] == 7.0);
     assert_eq!((alpha, beta), ([0.0; 4], [0.0; 4]));
+}
+
+/// By value, for words of at most 32 characters.
+#[test]
+fn short_words() {
+    let chain = |n: u32| -> (Vec<u32>, Vec<u32>) {
+        (
+            (0..n + 2).map(|p| p.saturating_sub(1)).collect(),
+            (0..n).collect(),
+        )
+    };
+    for n in [0, 1, 31, 32, 33] {
+        let ((offsets, starts), ids) = (chain(n), vec![1; n as usize]);
+        let n = n as usize;
+        let word = slices::Word {
+            offsets: &offsets,
+            starts: &starts,
+            ids: &ids,
+            n,
+        };
+        let (mut best, mut back) = (vec![1.5; n + 1], vec![7; n + 1]);
+        let short = slices::viterbi_short(word, &[-9.0, -0.5], &mut best, &mut back);
+        let (mut path, mut wanted) = ([0; 32], Err(Refusal::NoRoom(4)));
+        if n <= 32 {
+            path[..n].fill(1);
+            wanted = Ok((-0.5 * n as f64, n));
+        }
+        assert_eq!(
+            short,
+            slices::Short {
+                answer: wanted,
+                ids: path
+            }
+        );
+        assert!(best.iter().all(|slot| slot.to_bits() == 0) && back.iter().all(|&slot| slot == 0));
+    }
 }
 
 /// The C function itself: with no slot nothing is told and no sum given, and no slot but the first is written to.
@@ -148,10 +221,18 @@ fn told_and_sum_are_as_long_as_the_caller_likes() {
 #[test]
 fn a_refusal_is_a_sentence() {
     let said = Refusal::BadScore(3).to_string();
-    assert_eq!(said, "BadScore, number 10, at place 3: the score of piece 3 is NaN or above zero.");
+    assert_eq!(
+        said,
+        "BadScore, number 10, at place 3: the score of piece 3 is NaN or above zero."
+    );
     for refusal in [Refusal::NoPath, Refusal::NoRoom(4), Refusal::BadLattice(0)] {
         let said = refusal.to_string();
-        let begins = format!("{}, number {}, at place {}: ", refusal.name(), refusal.number(), refusal.place());
+        let begins = format!(
+            "{}, number {}, at place {}: ",
+            refusal.name(),
+            refusal.number(),
+            refusal.place()
+        );
         assert!(said.starts_with(&begins) && said.ends_with('.'), "{said}");
     }
 }

@@ -1,10 +1,12 @@
 -- What a call of cuts answers in C: 0 where it was accepted, else the refusal's number; what it tells beside it, the count of
 -- pieces, whether there is a cut, or 0 where there is nothing to count, else the refusal's place; and the sum that it gives. A
 -- refusal gives none. Definitions only.
+use mathlib.Core.Bool.{false}
 use mathlib.Core.List.{List}
 use Prim.Native.Nat.{ℕ}
+use lib.IntN.{pos}
 use lib.ListN.{set}
-use lib.Ieee.{Float}
+use lib.Ieee.{Float, fin}
 use Rattle.refusal.specs.Numbers.{numberOf, placeOf}
 use Rattle.cut.specs.declared.Cut.{Cut}
 use Rattle.cut.specs.declared.Cut.the-variants.{Score, Refused}
@@ -26,6 +28,11 @@ cutTold (Refused refusal) = placeOf refusal
 abbrev pub cutSum : Cut → List Float → List Float
 cutSum (Score score count) sum = set sum 0 score
 cutSum (Refused refusal) sum = sum
+
+-- a short word's score by value, +0 where there is none
+abbrev pub shortScore : Cut → Float
+shortScore (Score score count) = score
+shortScore (Refused refusal) = fin false 0 (pos 0)
 
 abbrev pub excludedNumber : Excluded → ℕ
 excludedNumber (Without score) = 0

@@ -4,8 +4,7 @@
 // refusal leaves `sum` as it was. What stands in `told` is the count of pieces, whether there is a cut (1 or 0), or 0 where
 // there is nothing to count; and a refusal's place.
 //
-// `cut::viterbi_short` has no function here: C returns no array. It is `causeylark_viterbi` with a path of 32 slots that hold
-// zeros, word for word in its contract too.
+// A short word's cut comes back by value, path and all, in a struct that C knows.
 use crate::accepted;
 use crate::refused;
 use cut::Connection;
@@ -13,6 +12,9 @@ use cut::Cut;
 use cut::Excluded;
 use cut::Expected;
 ghost use mathlib.Core.Path.{_≡_};
+ghost use mathlib.Core.Bool.{false};
+ghost use lib.IntN.{pos};
+ghost use lib.Ieee.{fin};
 ghost use lib.ListN.{length, set};
 ghost use Rattle.cut.specs.Cut.{Answers, Excludes, zeros, zero-floats};
 ghost use Rattle.cut.specs.Sums.{Connects, Expects};
@@ -20,7 +22,7 @@ ghost use Rattle.cut.specs.declared.Cut as CutOf;
 ghost use Rattle.cut.specs.declared.Excluded as ExcludedOf;
 ghost use Rattle.cut.specs.declared.Connection as ConnectionOf;
 ghost use Rattle.cut.specs.declared.Expected as ExpectedOf;
-ghost use Rattle.export.specs.Cuts.{cutNumber, cutTold, cutSum, excludedNumber, excludedTold, excludedSum, connectionNumber, connectionTold, expectedNumber, expectedTold, expectedSum};
+ghost use Rattle.export.specs.Cuts.{cutNumber, cutTold, cutSum, shortScore, excludedNumber, excludedTold, excludedSum, connectionNumber, connectionTold, expectedNumber, expectedTold, expectedSum};
 
 // A sum, at slot 0 if there is one.
 fn give(sum: &mut [f64], value: f64)
@@ -59,6 +61,55 @@ pub extern "C" fn causeylark_viterbi(
     match cut::viterbi(offsets, starts, ids, n, scores, best, back, path) {
         Cut::Score { score, count } => summed(sum, told, score, count),
         Cut::Refused(r) => refused(told, r),
+    }
+}
+
+// A short word's best cut by value: what C is answered and told, the score, and "32 ids"; the unused ids are 0.
+#[repr(C)]
+pub struct ByValue {
+    pub score: f64,
+    pub told: u64,
+    pub number: u32,
+    pub ids: [u32; 32],
+}
+
+// The score of a refusal.
+fn no_score() -> f64
+    ensures { λ r. ⌜ r ≡ fin false 0 (pos 0) ⌝ }
+{
+    0.0
+}
+
+// The best cut of a word of at most 32 characters, as `cut::viterbi_short` has it.
+#[no_mangle]
+pub extern "C" fn causeylark_viterbi_short(
+    offsets: &[u32],
+    starts: &[u32],
+    ids: &[u32],
+    n: usize,
+    scores: &[f64],
+    best: &mut [f64],
+    back: &mut [u32],
+) -> ByValue
+    ensures { λ a. ⌜ ((r : CutOf.Cut) × Answers (record { offsets = now (offsets .entry); starts = now (starts .entry); ids = now (ids .entry); n = n; scores = now (scores .entry) }) (now (best .entry)) (now (back .entry)) (zeros 32) (a .ids) r × (a .number ≡ cutNumber r) × (a .told ≡ cutTold r) × (a .score ≡ shortScore r)) ⌝ }
+    ensures { λ _. ⌜ (now (best .exit) ≡ zero-floats (length (now (best .entry)))) × (now (back .exit) ≡ zeros (length (now (back .entry)))) ⌝ }
+{
+    let short = cut::viterbi_short(offsets, starts, ids, n, scores, best, back);
+    let path = short.ids;
+    let found = short.cut;
+    match found {
+        Cut::Score { score, count } => ByValue {
+            score,
+            told: count as u64,
+            number: 0,
+            ids: path,
+        },
+        Cut::Refused(r) => ByValue {
+            score: no_score(),
+            told: refusal::place(r),
+            number: refusal::number(r) as u32,
+            ids: path,
+        },
     }
 }
 
