@@ -26,7 +26,7 @@ double causeylark_ln_1p(double y);
    character. */
 size_t causeylark_utf8_valid_up_to(const uint8_t *text, size_t bytes);
 
-/* ---- Refusals: what a call of lattices answers. The place says where: it stands in told[0]. */
+/* ---- Refusals: what a call of lattices or cuts answers. The place says where: it stands in told[0]. */
 enum causeylark_answer {
     CAUSEYLARK_ACCEPTED = 0,
     /* The piece length setting is over CAUSEYLARK_PIECE_LENGTH. Place: 3. */
@@ -35,8 +35,13 @@ enum causeylark_answer {
     CAUSEYLARK_BAD_WORD = 3,
     /* There is no room. Place: one of causeylark_room. */
     CAUSEYLARK_NO_ROOM = 7,
-    /* A lattice that is lent is not well formed. Place: the word's index. */
+    /* A lattice that is lent is not well formed, or a piece of it has no score. Place: the word's index; of a call on one
+       word's lattice, 0. */
     CAUSEYLARK_BAD_LATTICE = 9,
+    /* A score is NaN or above zero. Place: the lowest such id. */
+    CAUSEYLARK_BAD_SCORE = 10,
+    /* No cut has a finite sum. Place: 0. */
+    CAUSEYLARK_NO_PATH = 11,
     /* An entry of the remap is neither CAUSEYLARK_PRUNED nor the count of survivors before it. Place: the entry. */
     CAUSEYLARK_BAD_REMAP = 13,
     /* A piece is outside its text, or not UTF-8. Place: the piece's id. */
@@ -50,8 +55,11 @@ enum causeylark_room {
     CAUSEYLARK_ROOM_BOUNDS = 0,
     /* The distinct non-empty prefixes of the pieces and the root exceed half of the trie's places. */
     CAUSEYLARK_ROOM_TRIE = 2,
-    /* The results have too few slots. */
-    CAUSEYLARK_ROOM_RESULTS = 3
+    /* The results have too few slots; of a call of cuts, a work slice has no slot for each of n + 1 positions, or `emitted` no
+       entry for each edge. */
+    CAUSEYLARK_ROOM_RESULTS = 3,
+    /* The path has fewer than n slots. */
+    CAUSEYLARK_ROOM_PATH = 4
 };
 
 /* The bounds. */
@@ -124,6 +132,88 @@ uint32_t causeylark_retain(uint32_t *offsets, size_t offset_slots,
                            size_t words,
                            const uint32_t *remap, size_t entries,
                            uint64_t *told, size_t told_slots);
+
+/* ---- Cuts
+
+   A cut of a word is a chain of edges from position 0 to n. The empty word has one, with no edges and sum 0. These calls take
+   one word's lattice: its n + 2 offsets, counted from 0, its edges' starts and ids, and n. Of a cache, with `span` its word's
+   four numbers, that is offsets + span[2], starts + span[0], ids + span[0] and span[3], with span[1] - span[0] edges.
+
+   scores has an entry a piece, each at zero or below; minus infinity is one. best, back, reach, alpha and beta are work slices
+   of n + 1 slots. They may hold anything, and are zero after every call, however long; so lend n + 1 and not more.
+
+   A sum stands in sum[0] after an accepted call. A refusal leaves sum, path and emitted as they were, and told[0] is its place.
+   With no slot in `sum` or `told`, nothing is put there.
+
+   Checks in this order: BAD_LATTICE, BAD_SCORE, NO_ROOM at 3, NO_ROOM at 4, NO_PATH. */
+
+/* The best cut: sum[0] is its score, told[0] how many pieces it has, and their ids stand in front of path, which has n slots or
+   more. The other slots of path are kept. Of equal cuts the earliest start at each position wins. */
+uint32_t causeylark_viterbi(const uint32_t *offsets, size_t offset_count,
+                            const uint32_t *starts, size_t start_count,
+                            const uint32_t *ids, size_t id_count,
+                            size_t n,
+                            const double *scores, size_t score_count,
+                            double *best, size_t best_slots,
+                            uint32_t *back, size_t back_slots,
+                            uint32_t *path, size_t path_slots,
+                            double *sum, size_t sum_slots,
+                            uint64_t *told, size_t told_slots);
+
+/* The same for a word of at most 32 characters, by value. A longer one has NO_ROOM at 4. */
+struct causeylark_short {
+    /* The score; +0 after a refusal. */
+    double score;
+    /* How many pieces, or the refusal's place. */
+    uint64_t told;
+    /* CAUSEYLARK_ACCEPTED, or the refusal. */
+    uint32_t number;
+    /* The pieces; unused ids are 0, all of them after a refusal. */
+    uint32_t ids[32];
+};
+struct causeylark_short causeylark_viterbi_short(const uint32_t *offsets, size_t offset_count,
+                                                 const uint32_t *starts, size_t start_count,
+                                                 const uint32_t *ids, size_t id_count,
+                                                 size_t n,
+                                                 const double *scores, size_t score_count,
+                                                 double *best, size_t best_slots,
+                                                 uint32_t *back, size_t back_slots);
+
+/* The best score without ever using the piece `excluded`: sum[0], minus infinity where nothing else spells the word. told[0] is
+   0. There is no NO_ROOM at 4 and no NO_PATH. */
+uint32_t causeylark_viterbi_excluding(const uint32_t *offsets, size_t offset_count,
+                                      const uint32_t *starts, size_t start_count,
+                                      const uint32_t *ids, size_t id_count,
+                                      size_t n,
+                                      const double *scores, size_t score_count,
+                                      uint32_t excluded,
+                                      double *best, size_t best_slots,
+                                      double *sum, size_t sum_slots,
+                                      uint64_t *told, size_t told_slots);
+
+/* Whether there is a cut: told[0] is 1 or 0. No score is lent, so a piece may have any id. Checks BAD_LATTICE, NO_ROOM at 3. */
+uint32_t causeylark_is_connected(const uint32_t *offsets, size_t offset_count,
+                                 const uint32_t *starts, size_t start_count,
+                                 const uint32_t *ids, size_t id_count,
+                                 size_t n,
+                                 uint32_t *reach, size_t reach_slots,
+                                 uint64_t *told, size_t told_slots);
+
+/* How much every edge counts over all cuts: in front of emitted an entry an edge, +0 where there is none; sum[0] is the
+   logarithm of the sum over all cuts, minus infinity where it is not finite, and told[0] is 0. The other slots of emitted are
+   kept. There is no NO_ROOM at 4 and no NO_PATH. */
+uint32_t causeylark_expectations(const uint32_t *offsets, size_t offset_count,
+                                 const uint32_t *starts, size_t start_count,
+                                 const uint32_t *ids, size_t id_count,
+                                 size_t n,
+                                 const double *scores, size_t score_count,
+                                 double *alpha, size_t alpha_slots,
+                                 double *beta, size_t beta_slots,
+                                 double *emitted, size_t emitted_slots,
+                                 double *sum, size_t sum_slots,
+                                 uint64_t *told, size_t told_slots);
+
+/* The one-word cut, from a word and pieces to a path, is to be declared here: causeylark_cut. */
 
 #ifdef __cplusplus
 }

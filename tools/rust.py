@@ -5,10 +5,14 @@
     python3 tools/rust.py compare [--library FILE]       bits against docs/MATH.md's law
     python3 tools/rust.py lattices [--library FILE] [--cases N] [--seed N]
                                                          lattices and refusals against the Rust original
+    python3 tools/rust.py cuts [--library FILE] [--cases N] [--seed N]
+                                                         cuts, expectations and refusals against the Rust original
     python3 tools/rust.py bench-math [--library FILE]    speed against libm
     python3 tools/rust.py bench-utf8 [--library FILE]    speed against std::str::from_utf8
     python3 tools/rust.py bench-lattices [--library FILE]
                                                          speed against the Rust original
+    python3 tools/rust.py bench-cuts [--library FILE]    the same of cuts and expectations; it needs
+                                                         tools/native-staticlib bench_cuts too
     python3 tools/rust.py filter                         the reference as a filter
 
 The library is the static library with the proved code, which
@@ -24,44 +28,49 @@ from pathlib import Path
 
 ROOT = Path(__file__).resolve().parents[1]
 OUT = ROOT / "target/tools"
-LIBRARIES = ["target/native/libexport.a", "target/staticlib/libexport.a"]
+FOLDERS = ["target/native", "target/staticlib"]
 RUSTC = ["rustc", "--edition", "2021", "-C", "opt-level=3", "-D", "warnings"]
 
 # Tool: its programs, each a source and the kind of what it links, which says
 # what the kind before it says and more: nothing, the proved code by way of
-# bindings/rust, the Rust original too. A source in a folder tests/ is a
-# program of tests.
-ALONE, PROVED, ORIGINAL = range(3)
+# bindings/rust, the Rust original too, the cores of cuts too. A source in a
+# folder tests/ is a program of tests.
+ALONE, PROVED, ORIGINAL, CORES = range(4)
+BINDINGS = [f"bindings/rust/{name}.rs" for name in ("tests/lattices", "tests/cuts", "examples/aba")]
 TOOLS = {
-    "bindings": (["bindings/rust/tests/lattices.rs", "bindings/rust/examples/aba.rs"], PROVED),
+    "bindings": (BINDINGS, PROVED),
     "compare": (["tools/math/compare.rs"], PROVED),
     "lattices": (["tools/lattices/compare.rs"], ORIGINAL),
+    "cuts": (["tools/cuts/compare.rs"], ORIGINAL),
     "bench-math": (["tools/bench/math.rs"], PROVED),
     "bench-utf8": (["tools/bench/utf8.rs"], PROVED),
     "bench-lattices": (["tools/bench/lattices.rs"], ORIGINAL),
+    "bench-cuts": (["tools/bench/cuts.rs"], CORES),
     "filter": (["tools/math/filter.rs"], ALONE),
 }
 
 
-def library(named):
-    """The static library that is named, or the first that stands in target/."""
-    places = [Path(named).resolve()] if named else [ROOT / name for name in LIBRARIES]
+def library(named, name="export"):
+    """The static library that is named, or the first of this name that stands in target/."""
+    places = [Path(named).resolve()] if named else [ROOT / folder / f"lib{name}.a" for folder in FOLDERS]
     for place in places:
         if place.is_file():
             return place
     sys.exit("rust: no library at " + " or ".join(map(str, places)))
 
 
-def original():
-    """The Rust original as a library, built by the oracle's own script."""
+def originals():
+    """The arguments that link the Rust original, built by the oracle's own script: with our mathematics under its own name,
+    and as `stock` with the standard library's."""
     sys.dont_write_bytecode = True
     sys.path.insert(0, str(ROOT / "tools/oracle"))
     import build
 
     try:
-        return build.original()
+        built = {"original": build.original("ours"), "stock": build.original("stock")}
     except (build.Refused, OSError, subprocess.CalledProcessError) as reason:
         sys.exit(f"rust: {reason}")
+    return [word for name, rlib in built.items() for word in ("--extern", f"{name}={rlib}")]
 
 
 def rustc(out, source, *more):
@@ -80,7 +89,9 @@ def linked(kind, named):
         rustc(bindings, "bindings/rust/src/lib.rs", "--crate-name", "causeylark", "--crate-type", "rlib")
         arguments += ["--extern", f"causeylark={bindings}", "-C", f"link-arg={archive}"]
     if kind >= ORIGINAL:
-        arguments += ["--extern", f"original={original()}"]
+        arguments += originals()
+    if kind >= CORES:
+        arguments += ["-C", f"link-arg={library(None, 'bench_cuts')}"]
     return arguments
 
 

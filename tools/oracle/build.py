@@ -126,16 +126,21 @@ def warn(source):
             print(f"warning: {name} is not the file that README.md names", file=sys.stderr)
 
 
-def original():
-    """Builds target/oracle/original/liboriginal.rlib, the Rust as a library, and gives its path. Lattices ask for no
-    mathematics, so it needs no library of ours."""
+def configured(mathematics):
+    """The arguments that say which mathematics is compiled."""
+    return ["--check-cfg", 'cfg(mathematics, values("ours", "stock"))', "--cfg", f'mathematics="{mathematics}"']
+
+
+def original(mathematics):
+    """Builds the Rust as a library, and gives its path. With our mathematics, what links it links our library too."""
     source = read_source()
-    folder = TARGET / "original"
-    lay(folder, source, "stock")
-    rlib = folder / "liboriginal.rlib"
+    name = f"original_{mathematics}"
+    folder = TARGET / name
+    lay(folder, source, mathematics)
+    rlib = folder / f"lib{name}.rlib"
     subprocess.run(
-        ["rustc", "-C", "opt-level=3", "-C", "codegen-units=1", "--edition", "2021"]
-        + ["--crate-name", "original", "--crate-type", "rlib", "-D", "warnings", "-o", rlib, folder / "src" / "original.rs"],
+        ["rustc", "-C", "opt-level=3", "-C", "codegen-units=1", "--edition", "2021", "--crate-name", name]
+        + ["--crate-type", "rlib", "-D", "warnings", *configured(mathematics), "-o", rlib, folder / "src" / "original.rs"],
         check=True,
     )
     warn(source)
@@ -158,8 +163,7 @@ def build(mathematics, given=None):
     lay(folder, source, mathematics)
     subprocess.run(
         ["rustc", "-O", "--edition", "2021", "--crate-name", "oracle", "-o", folder / "oracle"]
-        + ["--check-cfg", 'cfg(mathematics, values("ours", "stock"))', "--cfg", f'mathematics="{mathematics}"']
-        + link + [folder / "src" / "main.rs"],
+        + configured(mathematics) + link + [folder / "src" / "main.rs"],
         check=True,
     )
     sums = {name: sha256(text.encode()) for name, text in source.items()}

@@ -4,6 +4,20 @@
 //! Nothing is demanded of numbers, so the functions of numbers are safe. The others are unsafe for
 //! one reason: a pointer and a count have to be a slice.
 
+/// What `causeylark_viterbi_short` returns.
+#[repr(C)]
+#[derive(Clone, Copy, Debug, PartialEq)]
+pub struct Short {
+    /// The score; +0 after a refusal.
+    pub score: f64,
+    /// How many pieces, or the refusal's place.
+    pub told: u64,
+    /// 0, or the refusal's number.
+    pub number: u32,
+    /// The pieces; unused ids are 0.
+    pub ids: [u32; 32],
+}
+
 unsafe extern "C" {
     /// e^x.
     pub safe fn causeylark_exp(x: f64) -> f64;
@@ -57,6 +71,104 @@ unsafe extern "C" {
         words: usize,
         remap: *const u32,
         entries: usize,
+        told: *mut u64,
+        told_slots: usize,
+    ) -> u32;
+
+    /// The best cut of one word's lattice.
+    pub fn causeylark_viterbi(
+        offsets: *const u32,
+        offset_count: usize,
+        starts: *const u32,
+        start_count: usize,
+        ids: *const u32,
+        id_count: usize,
+        n: usize,
+        scores: *const f64,
+        score_count: usize,
+        best: *mut f64,
+        best_slots: usize,
+        back: *mut u32,
+        back_slots: usize,
+        path: *mut u32,
+        path_slots: usize,
+        sum: *mut f64,
+        sum_slots: usize,
+        told: *mut u64,
+        told_slots: usize,
+    ) -> u32;
+
+    /// The best cut of a lattice of at most 32 characters, by value.
+    pub fn causeylark_viterbi_short(
+        offsets: *const u32,
+        offset_count: usize,
+        starts: *const u32,
+        start_count: usize,
+        ids: *const u32,
+        id_count: usize,
+        n: usize,
+        scores: *const f64,
+        score_count: usize,
+        best: *mut f64,
+        best_slots: usize,
+        back: *mut u32,
+        back_slots: usize,
+    ) -> Short;
+
+    /// The best score of one word's lattice without a piece.
+    pub fn causeylark_viterbi_excluding(
+        offsets: *const u32,
+        offset_count: usize,
+        starts: *const u32,
+        start_count: usize,
+        ids: *const u32,
+        id_count: usize,
+        n: usize,
+        scores: *const f64,
+        score_count: usize,
+        excluded: u32,
+        best: *mut f64,
+        best_slots: usize,
+        sum: *mut f64,
+        sum_slots: usize,
+        told: *mut u64,
+        told_slots: usize,
+    ) -> u32;
+
+    /// Whether one word's lattice has a cut.
+    pub fn causeylark_is_connected(
+        offsets: *const u32,
+        offset_count: usize,
+        starts: *const u32,
+        start_count: usize,
+        ids: *const u32,
+        id_count: usize,
+        n: usize,
+        reach: *mut u32,
+        reach_slots: usize,
+        told: *mut u64,
+        told_slots: usize,
+    ) -> u32;
+
+    /// The expected count of every edge of one word's lattice, and the sum over all cuts.
+    pub fn causeylark_expectations(
+        offsets: *const u32,
+        offset_count: usize,
+        starts: *const u32,
+        start_count: usize,
+        ids: *const u32,
+        id_count: usize,
+        n: usize,
+        scores: *const f64,
+        score_count: usize,
+        alpha: *mut f64,
+        alpha_slots: usize,
+        beta: *mut f64,
+        beta_slots: usize,
+        emitted: *mut f64,
+        emitted_slots: usize,
+        sum: *mut f64,
+        sum_slots: usize,
         told: *mut u64,
         told_slots: usize,
     ) -> u32;

@@ -11,15 +11,28 @@
 //! # Ok::<(), causeylark::Refusal>(())
 //! ```
 //!
+//! How a word is cut, over scores at zero or below, an entry a piece:
+//!
+//! ```
+//! use causeylark::{Cache, Cut};
+//!
+//! let cache = Cache::build(16, &[b"aba"], &[b"a", b"b", b"ab", b"ba"])?;
+//! let cut = cache.word(0).unwrap().viterbi(&[-1.0, -1.0, -2.0, -2.0]);
+//! assert_eq!(cut, Cut::Pieces { ids: vec![0, 3], score: -3.0 });
+//! # Ok::<(), causeylark::Refusal>(())
+//! ```
+//!
 //! And the mathematics, of which docs/MATH.md fixes every bit: [`exp`], [`ln`], [`ln_1p`].
 #![warn(missing_docs)]
 
 pub mod c;
 mod cache;
+mod cuts;
 mod refusal;
 pub mod slices;
 
 pub use cache::{Cache, Edge, Lattice, PRUNED};
+pub use cuts::{Cut, Expectations};
 pub use refusal::Refusal;
 
 /// e^x.

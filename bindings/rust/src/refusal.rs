@@ -11,10 +11,14 @@ pub enum Refusal {
     /// 3: the word at this index is over 255 bytes, outside the text, or not UTF-8.
     BadWord(u64),
     /// 7: there is no room. 0: more words, pieces or bytes than the bounds. 2: the trie's places.
-    /// 3: the results' slots.
+    /// 3: the results' slots, or a word's n + 1 positions. 4: the path's slots.
     NoRoom(u64),
-    /// 9: the lattice of the word at this index is not well formed.
+    /// 9: the lattice of the word at this index is not well formed, or a piece of it has no score.
     BadLattice(u64),
+    /// 10: the score of the piece of this id is NaN or above zero.
+    BadScore(u64),
+    /// 11: no cut has a finite sum.
+    NoPath,
     /// 13: this entry is neither [`PRUNED`](crate::PRUNED) nor the count of survivors before it.
     BadRemap(u64),
     /// 14: the piece of this id is outside its text, or not UTF-8.
@@ -32,10 +36,12 @@ impl Refusal {
             3 => Refusal::BadWord(place),
             7 => Refusal::NoRoom(place),
             9 => Refusal::BadLattice(place),
+            10 => Refusal::BadScore(place),
+            11 => Refusal::NoPath,
             13 => Refusal::BadRemap(place),
             14 => Refusal::BadPiece(place),
             15 => Refusal::RepeatedPiece(place),
-            _ => unreachable!("no call of lattices answers {number}"),
+            _ => unreachable!("no call of lattices or cuts answers {number}"),
         })
     }
 
@@ -46,6 +52,8 @@ impl Refusal {
             Refusal::BadWord(_) => 3,
             Refusal::NoRoom(_) => 7,
             Refusal::BadLattice(_) => 9,
+            Refusal::BadScore(_) => 10,
+            Refusal::NoPath => 11,
             Refusal::BadRemap(_) => 13,
             Refusal::BadPiece(_) => 14,
             Refusal::RepeatedPiece(_) => 15,
@@ -59,9 +67,11 @@ impl Refusal {
             | Refusal::BadWord(place)
             | Refusal::NoRoom(place)
             | Refusal::BadLattice(place)
+            | Refusal::BadScore(place)
             | Refusal::BadRemap(place)
             | Refusal::BadPiece(place)
             | Refusal::RepeatedPiece(place) => place,
+            Refusal::NoPath => 0,
         }
     }
 
@@ -72,6 +82,8 @@ impl Refusal {
             Refusal::BadWord(_) => "BadWord",
             Refusal::NoRoom(_) => "NoRoom",
             Refusal::BadLattice(_) => "BadLattice",
+            Refusal::BadScore(_) => "BadScore",
+            Refusal::NoPath => "NoPath",
             Refusal::BadRemap(_) => "BadRemap",
             Refusal::BadPiece(_) => "BadPiece",
             Refusal::RepeatedPiece(_) => "RepeatedPiece",
@@ -97,8 +109,11 @@ impl fmt::Display for Refusal {
                 write!(to, "there are more words, pieces or bytes of text than the bounds.")
             }
             Refusal::NoRoom(2) => write!(to, "the prefixes of the pieces exceed half of the trie's places."),
+            Refusal::NoRoom(4) => write!(to, "the path has fewer slots than the word has characters."),
             Refusal::NoRoom(_) => write!(to, "the lattices exceed the slots that were lent."),
             Refusal::BadLattice(word) => write!(to, "the lattice of word {word} is not well formed."),
+            Refusal::BadScore(id) => write!(to, "the score of piece {id} is NaN or above zero."),
+            Refusal::NoPath => write!(to, "no cut has a finite sum."),
             Refusal::BadRemap(entry) => write!(
                 to,
                 "entry {entry} of the remap is neither the mark of a pruned piece nor the count of survivors before it."

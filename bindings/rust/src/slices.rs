@@ -1,6 +1,6 @@
-//! The calls of lattices over lent slices, as they are, and safe: for those who keep their own
-//! tables. include/causeylark.h says what each slice holds. [`Cache`](crate::Cache) lends them for
-//! everyone else.
+//! The calls of lattices and of cuts over lent slices, as they are, and safe: for those who keep
+//! their own tables. include/causeylark.h says what each slice holds. [`Cache`](crate::Cache) and
+//! [`Lattice`](crate::Lattice) lend them for everyone else.
 
 use crate::{c, Refusal};
 
@@ -105,8 +105,186 @@ pub fn retain(cache: Results<'_>, words: usize, remap: &[u32]) -> Result<usize, 
 
 fn answer(number: u32, told: u64) -> Result<usize, Refusal> {
     match Refusal::of(number, told) {
-        // An edge stands in a slot of a slice, so the count of edges is a usize.
+        // What is counted stands in slots of a slice, so the count is a usize.
         None => Ok(told as usize),
         Some(refusal) => Err(refusal),
     }
+}
+
+/// One word's lattice, as a call of cuts reads it.
+#[derive(Clone, Copy, Debug, PartialEq, Eq)]
+pub struct Word<'a> {
+    /// n + 2 of them.
+    pub offsets: &'a [u32],
+    /// An edge each.
+    pub starts: &'a [u32],
+    /// An edge each.
+    pub ids: &'a [u32],
+    /// How many characters the word has.
+    pub n: usize,
+}
+
+/// The best cut: its score and how many pieces it has, whose ids stand in front of the path. The
+/// path has a slot a character, and the work slices, `best` and `back`, have one more each.
+pub fn viterbi(
+    word: Word<'_>,
+    scores: &[f64],
+    best: &mut [f64],
+    back: &mut [u32],
+    path: &mut [u32],
+) -> Result<(f64, usize), Refusal> {
+    let (mut sum, mut told) = ([0.0], [0]);
+    // SAFETY: each pointer and count is a slice, and no two that are written to overlap.
+    let number = unsafe {
+        c::causeylark_viterbi(
+            word.offsets.as_ptr(),
+            word.offsets.len(),
+            word.starts.as_ptr(),
+            word.starts.len(),
+            word.ids.as_ptr(),
+            word.ids.len(),
+            word.n,
+            scores.as_ptr(),
+            scores.len(),
+            best.as_mut_ptr(),
+            best.len(),
+            back.as_mut_ptr(),
+            back.len(),
+            path.as_mut_ptr(),
+            path.len(),
+            sum.as_mut_ptr(),
+            sum.len(),
+            told.as_mut_ptr(),
+            told.len(),
+        )
+    };
+    answer(number, told[0]).map(|count| (sum[0], count))
+}
+
+/// A short word's best cut by value.
+#[derive(Clone, Copy, Debug, PartialEq)]
+pub struct Short {
+    /// Its score and how many pieces it has, or why there is none.
+    pub answer: Result<(f64, usize), Refusal>,
+    /// The ids of the pieces. Unused ids are 0, and so are all where there is no cut.
+    pub ids: [u32; 32],
+}
+
+/// The best cut of a word of at most 32 characters, with its path by value. A longer word is refused by
+/// `NoRoom(4)`. The work slices have n + 1 slots each.
+pub fn viterbi_short(word: Word<'_>, scores: &[f64], best: &mut [f64], back: &mut [u32]) -> Short {
+    // SAFETY: each pointer and count is a slice, and no two that are written to overlap.
+    let short = unsafe {
+        c::causeylark_viterbi_short(
+            word.offsets.as_ptr(),
+            word.offsets.len(),
+            word.starts.as_ptr(),
+            word.starts.len(),
+            word.ids.as_ptr(),
+            word.ids.len(),
+            word.n,
+            scores.as_ptr(),
+            scores.len(),
+            best.as_mut_ptr(),
+            best.len(),
+            back.as_mut_ptr(),
+            back.len(),
+        )
+    };
+    Short {
+        answer: answer(short.number, short.told).map(|count| (short.score, count)),
+        ids: short.ids,
+    }
+}
+
+/// The best score without a piece, minus infinity where nothing else spells the word. The work slice
+/// has n + 1 slots.
+pub fn viterbi_excluding(
+    word: Word<'_>,
+    scores: &[f64],
+    excluded: u32,
+    best: &mut [f64],
+) -> Result<f64, Refusal> {
+    let (mut sum, mut told) = ([0.0], [0]);
+    // SAFETY: each pointer and count is a slice, and no two that are written to overlap.
+    let number = unsafe {
+        c::causeylark_viterbi_excluding(
+            word.offsets.as_ptr(),
+            word.offsets.len(),
+            word.starts.as_ptr(),
+            word.starts.len(),
+            word.ids.as_ptr(),
+            word.ids.len(),
+            word.n,
+            scores.as_ptr(),
+            scores.len(),
+            excluded,
+            best.as_mut_ptr(),
+            best.len(),
+            sum.as_mut_ptr(),
+            sum.len(),
+            told.as_mut_ptr(),
+            told.len(),
+        )
+    };
+    answer(number, told[0]).map(|_| sum[0])
+}
+
+/// Whether there is a cut. The work slice has n + 1 slots.
+pub fn is_connected(word: Word<'_>, reach: &mut [u32]) -> Result<bool, Refusal> {
+    let mut told = [0];
+    // SAFETY: each pointer and count is a slice, and no two that are written to overlap.
+    let number = unsafe {
+        c::causeylark_is_connected(
+            word.offsets.as_ptr(),
+            word.offsets.len(),
+            word.starts.as_ptr(),
+            word.starts.len(),
+            word.ids.as_ptr(),
+            word.ids.len(),
+            word.n,
+            reach.as_mut_ptr(),
+            reach.len(),
+            told.as_mut_ptr(),
+            told.len(),
+        )
+    };
+    answer(number, told[0]).map(|cuts| cuts == 1)
+}
+
+/// The logarithm of the sum over all cuts, minus infinity where it is not finite; and in front of
+/// `emitted` the expected count of every edge. The work slices have n + 1 slots each.
+pub fn expectations(
+    word: Word<'_>,
+    scores: &[f64],
+    alpha: &mut [f64],
+    beta: &mut [f64],
+    emitted: &mut [f64],
+) -> Result<f64, Refusal> {
+    let (mut sum, mut told) = ([0.0], [0]);
+    // SAFETY: each pointer and count is a slice, and no two that are written to overlap.
+    let number = unsafe {
+        c::causeylark_expectations(
+            word.offsets.as_ptr(),
+            word.offsets.len(),
+            word.starts.as_ptr(),
+            word.starts.len(),
+            word.ids.as_ptr(),
+            word.ids.len(),
+            word.n,
+            scores.as_ptr(),
+            scores.len(),
+            alpha.as_mut_ptr(),
+            alpha.len(),
+            beta.as_mut_ptr(),
+            beta.len(),
+            emitted.as_mut_ptr(),
+            emitted.len(),
+            sum.as_mut_ptr(),
+            sum.len(),
+            told.as_mut_ptr(),
+            told.len(),
+        )
+    };
+    answer(number, told[0]).map(|_| sum[0])
 }

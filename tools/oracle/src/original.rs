@@ -1,6 +1,9 @@
-//! The Rust of the source as a library: its trie, its builder and its cache, for tools that compare with them or measure
-//! them in one program. README.md says what is compiled.
+//! The Rust of the source as a library: its trie, its builder, its cache and its cuts, for tools that compare with them or
+//! measure them in one program. README.md says what is compiled.
 
+#[cfg(mathematics = "ours")]
+#[allow(dead_code)]
+mod mathematics;
 // Both have more than is asked of them here.
 #[allow(dead_code)]
 mod shims;
@@ -11,7 +14,7 @@ mod unigram;
 extern crate self as rustc_hash;
 use shims::{corpus, error, FxHashMap, Recipe};
 
-use unigram::probe::{LatticeBuilder, LatticeCache, Lent, PieceTrie};
+use unigram::probe::{Edge, Lattice as Algorithms, LatticeBuilder, LatticeCache, Lent, PieceTrie};
 
 /// The pieces, indexed for walking.
 pub struct Trie(PieceTrie);
@@ -54,5 +57,65 @@ impl Cache {
             Lattice { edges: edges.iter().map(|edge| (edge.start, edge.end, edge.piece)).collect(), offsets }
         };
         (0..self.0.len()).map(lattice).collect()
+    }
+
+    /// The sum over all cuts of each word, and to `emit` the piece and the expectation of every edge, as training asks: with
+    /// one scratch for all words.
+    pub fn expectations(&self, scores: &[f64], sums: &mut [f64], mut emit: impl FnMut(u32, f64)) {
+        let mut scratch = Algorithms::default();
+        for (index, sum) in sums.iter_mut().enumerate() {
+            *sum = scratch.expectations(self.0.view(index), scores, &mut emit);
+        }
+    }
+
+    /// The best score of each word, and all paths one after the other.
+    pub fn viterbi(&self, scores: &[f64], sums: &mut [f64], paths: &mut Vec<u32>) {
+        let mut scratch = Algorithms::default();
+        for (index, sum) in sums.iter_mut().enumerate() {
+            *sum = scratch.viterbi(self.0.view(index), scores, paths);
+        }
+    }
+
+    /// The best score of each word without the piece that stands beside it.
+    pub fn viterbi_excluding(&self, scores: &[f64], excluded: &[u32], sums: &mut [f64]) {
+        let mut scratch = Algorithms::default();
+        for (index, sum) in sums.iter_mut().enumerate() {
+            *sum = scratch.viterbi_excluding(self.0.view(index), scores, excluded[index]);
+        }
+    }
+
+    /// Which words have a cut.
+    pub fn connected(&self) -> Vec<bool> {
+        (0..self.0.len()).map(|index| self.0.view(index).is_connected()).collect()
+    }
+}
+
+/// One word's lattice, which has to be well formed, and its cuts.
+pub struct Word(Lent);
+
+impl Word {
+    pub fn lent(n: usize, edges: &[(u32, u32, u32)], offsets: &[u32]) -> Word {
+        let edge = |&(start, end, piece): &(u32, u32, u32)| Edge { start, end, piece };
+        Word(Lent { n, edges: edges.iter().map(edge).collect(), offsets: offsets.to_vec() })
+    }
+
+    /// Its score and its path, or none.
+    pub fn viterbi(&self, scores: &[f64]) -> Option<(f64, Vec<u32>)> {
+        let mut path = Vec::new();
+        let score = Algorithms::default().viterbi(self.0.view(), scores, &mut path);
+        (score != f64::NEG_INFINITY).then_some((score, path))
+    }
+
+    pub fn viterbi_excluding(&self, scores: &[f64], excluded: u32) -> f64 {
+        Algorithms::default().viterbi_excluding(self.0.view(), scores, excluded)
+    }
+
+    pub fn is_connected(&self) -> bool {
+        self.0.view().is_connected()
+    }
+
+    /// z and an entry an edge, in edge order; +0 where nothing is emitted.
+    pub fn expectations(&self, scores: &[f64]) -> (f64, Vec<f64>) {
+        self.0.expectations(scores)
     }
 }

@@ -1,0 +1,69 @@
+-- `cut_vectors::tables::read_slots` stays within the table, which keeps its length. Assumes nothing.
+use native.Mathlib.Omega.{arith}
+use Prim.Native.Nat.{_-_, _≤_}
+use lib.ListN.{length, length-set}
+use mathlib.Core.Path.{_≡_}
+use borrow.Author.Needs.{needs}
+use Rattle.cut_vectors.proofs.tables.read_slots.Statement.{statement}
+use Rattle.cut_vectors.proofs.tables.read_slots.Tie as tie
+
+abbrev Inv-loop : tie.InvT-loop
+Inv-loop line from digits entries slots₀ i₀ at₀ slots i at = (i ≤ length slots) × (length slots ≡ length slots₀)
+
+abbrev μ-loop : tie.MeasureT-loop
+μ-loop line from digits entries slots₀ i₀ at₀ slots i at = length slots - i
+
+loop-holds : tie.Need-loop-holds Inv-loop μ-loop
+loop-holds c = search needs
+
+same-length : tie.Need-same-length Inv-loop μ-loop
+same-length c = search needs
+
+returns : tie.Need-returns Inv-loop μ-loop
+returns c = search needs
+
+small-requires : tie.Need-small-requires Inv-loop μ-loop
+small-requires c κs = search needs
+
+mul-slots : tie.Need-mul-slots Inv-loop μ-loop
+mul-slots c = search needs
+
+slice-write-slots : tie.Need-slice-write-slots Inv-loop μ-loop
+slice-write-slots c = search needs
+
+after-requires : tie.Need-after-requires Inv-loop μ-loop
+after-requires c κs = search needs
+
+add-i : tie.Need-add-i Inv-loop μ-loop
+add-i c = search needs
+
+loop-less : tie.Need-loop-less Inv-loop μ-loop
+loop-less c = simp length-set (omega arith)
+
+loop-again : tie.Need-loop-again Inv-loop μ-loop
+loop-again c = (simp length-set (omega arith), simp length-set (omega arith))
+
+same-length-2 : tie.Need-same-length-2 Inv-loop μ-loop
+same-length-2 c = search needs
+
+returns-2 : tie.Need-returns-2 Inv-loop μ-loop
+returns-2 c = search needs
+
+pub read-slots-spec : {M : Type 1} → statement M
+read-slots-spec =
+    tie.close
+    (tie.spec
+    Inv-loop
+    μ-loop
+    loop-holds
+    same-length
+    returns
+    small-requires
+    mul-slots
+    slice-write-slots
+    after-requires
+    add-i
+    loop-less
+    loop-again
+    same-length-2
+    returns-2)

@@ -1,0 +1,383 @@
+//! Do the proved cuts, expectations and refusals agree with the Rust original, and with document 01?
+//!
+//! A case is a few words of eight scripts over a list of distinct pieces, and scores of one kind or of several. Each word's
+//! lattice goes through the five calls. What they answer has to be what the original answers with our mathematics, bit for
+//! bit: the best cut's score and path, the best score without a piece, whether there is a cut, the sum over all cuts and
+//! every edge's expectation. Then what is lent is damaged, and plain.rs works out which refusal should come of it, at which
+//! place; where none should, the original is asked again.
+//!
+//! Slots that no answer fills are as they were, and all are after a refusal. The work slices hold zeros after every call,
+//! whatever they held before. One difference fails, and so does a kind that never came.
+//!
+//!     --cases N    how many, 100,000 if not said
+//!     --seed N     the same seed makes the same cases
+
+#[allow(dead_code)]
+#[path = "../lattices/cases.rs"]
+mod cases;
+mod cuts;
+#[allow(dead_code)]
+#[path = "../lattices/plain.rs"]
+mod plain;
+#[allow(dead_code)]
+#[path = "../math/random.rs"]
+mod random;
+#[path = "plain.rs"]
+mod refusals;
+
+use causeylark::slices::{self, Word};
+use causeylark::Refusal;
+use random::Random;
+use refusals::{Edge, Lent, No, Rooms};
+use std::collections::BTreeMap;
+
+const SHOWN: usize = 10;
+
+/// What has to come at least once, in as many cases as this.
+const ENOUGH: usize = 2_000;
+const CALLS: [&str; 5] = ["viterbi", "excluding", "connected", "expectations", "short"];
+/// Of every call.
+const FORMED: [(u32, &str); 8] = [
+    (0, "accepted"),
+    (0, "accepted, damaged"),
+    (9, "not n + 2 offsets"),
+    (9, "starts and ids not equally many"),
+    (9, "offsets not from 0 to the edge count"),
+    (9, "offsets that fall"),
+    (9, "a start not before its end"),
+    (9, "starts that do not rise"),
+];
+const OTHERS: [(&str, u32, &str); 26] = [
+    ("viterbi", 9, "an id with no score"),
+    ("viterbi", 10, "NaN"),
+    ("viterbi", 10, "above zero"),
+    ("viterbi", 7, "room 3, best"),
+    ("viterbi", 7, "room 3, back"),
+    ("viterbi", 7, "room 4, path"),
+    ("viterbi", 11, "no finite sum"),
+    ("viterbi", 0, "an empty word"),
+    ("short", 9, "an id with no score"),
+    ("short", 10, "NaN"),
+    ("short", 10, "above zero"),
+    ("short", 7, "room 3, best"),
+    ("short", 7, "room 3, back"),
+    ("short", 7, "room 4, path"),
+    ("short", 11, "no finite sum"),
+    ("excluding", 9, "an id with no score"),
+    ("excluding", 10, "NaN"),
+    ("excluding", 10, "above zero"),
+    ("excluding", 7, "room 3, best"),
+    ("connected", 7, "room 3, reach"),
+    ("expectations", 9, "an id with no score"),
+    ("expectations", 10, "NaN"),
+    ("expectations", 10, "above zero"),
+    ("expectations", 7, "room 3, alpha"),
+    ("expectations", 7, "room 3, beta"),
+    ("expectations", 7, "room 3, entries"),
+];
+
+struct Comparison {
+    random: Random,
+    case: usize,
+    counts: BTreeMap<(&'static str, u32, &'static str), u64>,
+    edges: usize,
+    cuts: usize,
+    differences: usize,
+}
+
+/// What a call answers in numbers: the sum's bits and the count, or the refusal.
+type Said = Result<(u64, usize), (u32, u64)>;
+
+/// What should come of a call: the sum, the count, and what its results begin with.
+type Wanted<T> = Result<(f64, usize, Vec<T>), No>;
+
+fn bits(floats: &[f64]) -> Vec<u64> {
+    floats.iter().map(|float| float.to_bits()).collect()
+}
+
+fn zeros(floats: &[f64], numbers: &[u32]) -> bool {
+    floats.iter().all(|float| float.to_bits() == 0) && numbers.iter().all(|&number| number == 0)
+}
+
+fn original(lent: &Lent, edges: &[Edge]) -> original::Word {
+    original::Word::lent(lent.n, edges, &lent.offsets)
+}
+
+fn word(lent: &Lent) -> Word<'_> {
+    Word {
+        offsets: &lent.offsets,
+        starts: &lent.starts,
+        ids: &lent.ids,
+        n: lent.n,
+    }
+}
+
+/// The best cut, or the first refusal that applies.
+fn best_cut(lent: &Lent, rooms: &Rooms) -> Wanted<u32> {
+    let edges = refusals::viterbi(lent, rooms)?;
+    match original(lent, &edges).viterbi(&lent.scores) {
+        Some((score, path)) => Ok((score, path.len(), path)),
+        None => Err(No {
+            number: 11,
+            place: 0,
+            why: "no finite sum",
+        }),
+    }
+}
+
+impl Comparison {
+    fn difference(
+        &mut self,
+        what: &str,
+        wanted: impl std::fmt::Debug,
+        found: impl std::fmt::Debug,
+    ) {
+        self.differences += 1;
+        if self.differences <= SHOWN {
+            println!(
+                "case {}: {what}\n  wanted {wanted:?}\n  found  {found:?}",
+                self.case
+            );
+        }
+    }
+
+    /// Numbers of every size, so that nothing that was there before can be taken for a result.
+    fn junk(&mut self, slots: usize) -> Vec<u32> {
+        (0..slots)
+            .map(|_| (self.random.bits() >> self.random.below(64)) as u32)
+            .collect()
+    }
+
+    fn junk_floats(&mut self, slots: usize) -> Vec<f64> {
+        (0..slots)
+            .map(|_| f64::from_bits(self.random.bits()))
+            .collect()
+    }
+
+    /// The answer, what its results hold after it, and whether the work slices are clear.
+    fn judge<T: Copy + PartialEq + std::fmt::Debug>(
+        &mut self,
+        call: &'static str,
+        good: &'static str,
+        wanted: &Wanted<T>,
+        said: Result<(f64, usize), Refusal>,
+        results: (&[T], &[T]),
+        clear: bool,
+    ) {
+        let (number, why) = wanted
+            .as_ref()
+            .map_or_else(|no| (no.number, no.why), |_| (0, good));
+        *self.counts.entry((call, number, why)).or_default() += 1;
+        let wants: Said = match wanted {
+            Ok((sum, count, _)) => Ok((sum.to_bits(), *count)),
+            Err(no) => Err((no.number, no.place)),
+        };
+        let says: Said = said
+            .map(|(sum, count)| (sum.to_bits(), count))
+            .map_err(|refusal| (refusal.number(), refusal.place()));
+        if wants != says {
+            self.difference(call, (wants, why), says);
+        }
+        let (before, after) = results;
+        let front = wanted.as_ref().map_or(&[][..], |(_, _, front)| front);
+        let left: Vec<T> = front
+            .iter()
+            .chain(before.iter().skip(front.len()))
+            .copied()
+            .collect();
+        if left != after {
+            self.difference(&format!("{call}, the results after {why}"), left, after);
+        }
+        if !clear {
+            self.difference(
+                &format!("{call}, a work slice after {why}"),
+                "zeros",
+                "other",
+            );
+        }
+    }
+
+    fn viterbi(&mut self, good: &'static str, lent: &Lent, rooms: &Rooms) {
+        let (mut best, mut back) = (self.junk_floats(rooms.best), self.junk(rooms.back));
+        let before = self.junk(rooms.path);
+        let mut path = before.clone();
+        let said = slices::viterbi(word(lent), &lent.scores, &mut best, &mut back, &mut path);
+        let wanted = best_cut(lent, rooms);
+        self.cuts += usize::from(wanted.is_ok());
+        let good = if lent.n == 0 { "an empty word" } else { good };
+        self.judge(
+            CALLS[0],
+            good,
+            &wanted,
+            said,
+            (&before, &path),
+            zeros(&best, &back),
+        );
+    }
+
+    /// The same with 32 slots that hold zeros, by value.
+    fn short(&mut self, good: &'static str, lent: &Lent, rooms: &Rooms) {
+        let (mut best, mut back) = (self.junk_floats(rooms.best), self.junk(rooms.back));
+        let short = slices::viterbi_short(word(lent), &lent.scores, &mut best, &mut back);
+        let wanted = best_cut(lent, &Rooms { path: 32, ..*rooms });
+        self.judge(
+            CALLS[4],
+            good,
+            &wanted,
+            short.answer,
+            (&[0; 32], &short.ids),
+            zeros(&best, &back),
+        );
+    }
+
+    fn excluding(&mut self, good: &'static str, lent: &Lent, rooms: &Rooms) {
+        let mut best = self.junk_floats(rooms.best);
+        let far = self.random.bits() as u32;
+        let near = self.random.below(lent.scores.len() + 1) as u32;
+        let used = lent.ids.first().copied().unwrap_or(near);
+        let excluded = self.random.pick(&[near, near, used, used, far]);
+        let said = slices::viterbi_excluding(word(lent), &lent.scores, excluded, &mut best);
+        let wanted = refusals::viterbi_excluding(lent, rooms).map(|edges| {
+            let score = original(lent, &edges).viterbi_excluding(&lent.scores, excluded);
+            (score, 0, Vec::<u32>::new())
+        });
+        let said = said.map(|score| (score, 0));
+        self.judge(CALLS[1], good, &wanted, said, (&[], &[]), zeros(&best, &[]));
+    }
+
+    fn connected(&mut self, good: &'static str, lent: &Lent, rooms: &Rooms) {
+        let mut reach = self.junk(rooms.reach);
+        let said = slices::is_connected(word(lent), &mut reach);
+        let wanted = refusals::is_connected(lent, rooms).map(|edges| {
+            (
+                0.0,
+                usize::from(original(lent, &edges).is_connected()),
+                Vec::<u32>::new(),
+            )
+        });
+        let said = said.map(|cuts| (0.0, usize::from(cuts)));
+        self.judge(
+            CALLS[2],
+            good,
+            &wanted,
+            said,
+            (&[], &[]),
+            zeros(&[], &reach),
+        );
+    }
+
+    fn expectations(&mut self, good: &'static str, lent: &Lent, rooms: &Rooms) {
+        let (mut alpha, mut beta) = (self.junk_floats(rooms.alpha), self.junk_floats(rooms.beta));
+        let before = self.junk_floats(rooms.emitted);
+        let mut emitted = before.clone();
+        let said = slices::expectations(
+            word(lent),
+            &lent.scores,
+            &mut alpha,
+            &mut beta,
+            &mut emitted,
+        );
+        let wanted = refusals::expectations(lent, rooms).map(|edges| {
+            let (z, entries) = original(lent, &edges).expectations(&lent.scores);
+            (z, 0, bits(&entries))
+        });
+        self.edges += wanted.as_ref().map_or(0, |(_, _, entries)| entries.len());
+        let said = said.map(|sum| (sum, 0));
+        let clear = zeros(&alpha, &[]) && zeros(&beta, &[]);
+        self.judge(
+            CALLS[3],
+            good,
+            &wanted,
+            said,
+            (&bits(&before), &bits(&emitted)),
+            clear,
+        );
+    }
+
+    fn all(&mut self, good: &'static str, lent: &Lent, rooms: &Rooms) {
+        self.viterbi(good, lent, rooms);
+        self.short(good, lent, rooms);
+        self.excluding(good, lent, rooms);
+        self.connected(good, lent, rooms);
+        self.expectations(good, lent, rooms);
+    }
+
+    fn compare(&mut self) {
+        let case = cases::Case::new(&mut self.random);
+        let words: Vec<&str> = case.words.iter().map(String::as_str).collect();
+        let pieces: Vec<&str> = case.pieces.iter().map(String::as_str).collect();
+        let scores = cuts::scores(&mut self.random, &pieces);
+        for lattice in plain::lattices(case.setting, &words, &pieces) {
+            let lent = Lent {
+                offsets: lattice.offsets(),
+                starts: lattice.edges.iter().map(|edge| edge.0).collect(),
+                ids: lattice.edges.iter().map(|edge| edge.2).collect(),
+                n: lattice.n,
+                scores: scores.clone(),
+            };
+            let rooms = cuts::rooms(&mut self.random, &lent);
+            self.all("accepted", &lent, &rooms);
+            let (mut lent, mut rooms) = (lent, rooms);
+            for _ in 0..self.random.pick(&[1, 1, 1, 2, 3]) {
+                cuts::damage(&mut self.random, &mut lent, &mut rooms);
+            }
+            self.all("accepted, damaged", &lent, &rooms);
+        }
+    }
+
+    fn report(&mut self, cases: usize) {
+        for ((call, number, why), count) in &self.counts {
+            println!("{count:>9}  {call:<12}  {number:>2}  {why}");
+        }
+        let every = CALLS
+            .iter()
+            .flat_map(|call| FORMED.map(|(number, why)| (*call, number, why)));
+        for kind in every.chain(OTHERS) {
+            if cases >= ENOUGH && !self.counts.contains_key(&kind) {
+                self.difference("never came", kind, "none");
+            }
+        }
+        println!(
+            "cuts: {cases} cases, {} best cuts, {} edges with expectations, {} differences",
+            self.cuts, self.edges, self.differences
+        );
+    }
+}
+
+/// The numbers after --cases and --seed.
+fn arguments() -> Result<(usize, u64), String> {
+    let (mut cases, mut seed) = (100_000, 1);
+    let mut words = std::env::args().skip(1);
+    while let Some(word) = words.next() {
+        let number = words.next().and_then(|number| number.parse().ok());
+        match (word.as_str(), number) {
+            ("--cases", Some(number)) => cases = number as usize,
+            ("--seed", Some(number)) => seed = number,
+            _ => return Err(format!("cuts: --cases N or --seed N, and not {word}")),
+        }
+    }
+    Ok((cases, seed))
+}
+
+fn main() {
+    let (cases, seed) = arguments().unwrap_or_else(|reason| {
+        eprintln!("{reason}");
+        std::process::exit(2);
+    });
+    let mut comparison = Comparison {
+        random: Random(seed),
+        case: 0,
+        counts: BTreeMap::new(),
+        edges: 0,
+        cuts: 0,
+        differences: 0,
+    };
+    for case in 1..=cases {
+        comparison.case = case;
+        comparison.compare();
+    }
+    comparison.report(cases);
+    if comparison.differences > 0 {
+        std::process::exit(1);
+    }
+}
