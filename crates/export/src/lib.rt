@@ -1,8 +1,8 @@
 // What C and Rust can call: numbers and slices in, numbers out, nothing demanded of a caller.
 //
-// A C function answers one number. So a call that can be refused answers 0 where it was accepted, and else the number of the
-// refusal, as document 01's table has it. What more there is to tell stands in slot 0 of the lent slice `told`: how many
-// edges, or the refusal's place. A caller that does not want it lends no slot.
+// A C function answers one number, or one struct. So a call that can be refused answers 0 where it was accepted, and else the
+// number of the refusal, as document 01's table has it. What more there is to tell stands in slot 0 of the lent slice `told`:
+// how many edges, or the refusal's place. A caller that does not want it lends no slot. The calls of cuts are in cuts.rt.
 //
 // A slice is a pointer and a count in C. include/causeylark.h declares these functions for C, and bindings/rust for Rust.
 // Nothing checks the declarations against this file, so they are few and plain.
