@@ -213,7 +213,23 @@ uint32_t causeylark_expectations(const uint32_t *offsets, size_t offset_count,
                                  double *sum, size_t sum_slots,
                                  uint64_t *told, size_t told_slots);
 
-/* The one-word cut, from a word and pieces to a path, is to be declared here: causeylark_cut. */
+/* The best cut of one word over a list of pieces, lent as for causeylark_build, with a score for each. It answers as
+   causeylark_viterbi does: the empty word has sum 0 and told[0] 0. path has a slot for each character of the word. keys, ends and
+   table are the work slices of causeylark_build. Each call builds the trie of all pieces; to cut many words, build a cache.
+
+   Checks in this order: BAD_SETTING, NO_ROOM at 0, BAD_WORD, BAD_PIECE, REPEATED_PIECE, BAD_SCORE (a piece without a score too),
+   NO_ROOM at 2, NO_ROOM at 4, NO_PATH. */
+uint32_t causeylark_cut(size_t setting,
+                        const uint8_t *word, size_t word_bytes,
+                        const uint8_t *spellings, size_t spelling_bytes,
+                        const uint32_t *pieces, size_t piece_numbers,
+                        const double *scores, size_t score_count,
+                        uint32_t *path, size_t path_slots,
+                        uint64_t *keys, size_t key_slots,
+                        uint32_t *ends, size_t end_slots,
+                        uint32_t *table, size_t table_slots,
+                        double *sum, size_t sum_slots,
+                        uint64_t *told, size_t told_slots);
 
 #ifdef __cplusplus
 }

@@ -172,4 +172,29 @@ unsafe extern "C" {
         told: *mut u64,
         told_slots: usize,
     ) -> u32;
+
+    /// The best cut of one word over a list of pieces.
+    pub fn causeylark_cut(
+        setting: usize,
+        word: *const u8,
+        word_bytes: usize,
+        spellings: *const u8,
+        spelling_bytes: usize,
+        pieces: *const u32,
+        piece_numbers: usize,
+        scores: *const f64,
+        score_count: usize,
+        path: *mut u32,
+        path_slots: usize,
+        keys: *mut u64,
+        key_slots: usize,
+        ends: *mut u32,
+        end_slots: usize,
+        table: *mut u32,
+        table_slots: usize,
+        sum: *mut f64,
+        sum_slots: usize,
+        told: *mut u64,
+        told_slots: usize,
+    ) -> u32;
 }

@@ -31,14 +31,14 @@ pub struct Cache {
 }
 
 /// Many strings of bytes as spans of one text, and how many characters they have if they are UTF-8.
-struct Spans {
-    text: Vec<u8>,
-    numbers: Vec<u32>,
+pub(crate) struct Spans {
+    pub(crate) text: Vec<u8>,
+    pub(crate) numbers: Vec<u32>,
     characters: usize,
 }
 
 impl Spans {
-    fn of(strings: &[&[u8]]) -> Spans {
+    pub(crate) fn of(strings: &[&[u8]]) -> Spans {
         let text = strings.concat();
         let begins = |byte: &&u8| **byte & 0xc0 != 0x80;
         let characters = text.iter().filter(begins).count();
@@ -54,6 +54,12 @@ impl Spans {
             numbers,
             characters,
         }
+    }
+
+    /// Places for a trie of these: each distinct non-empty prefix has one, and the root, and as many
+    /// places again are empty.
+    pub(crate) fn places(&self) -> usize {
+        2 * (self.characters + 1)
     }
 }
 
@@ -74,8 +80,7 @@ impl Cache {
             piece_text: &known.text,
             pieces: &known.numbers,
         };
-        // Each distinct non-empty prefix has a place, and the root, and as many places again are empty.
-        let places = 2 * (known.characters + 1);
+        let places = known.places();
         let mut keys = vec![0; places];
         let mut ends = vec![0; places];
         let mut table = vec![0; 2 * pieces.len()];

@@ -3,7 +3,8 @@
 //! Scores are lent, an entry a piece, each at zero or below; minus infinity is one too. A refusal says
 //! which is not.
 
-use crate::slices::{self, Word};
+use crate::cache::Spans;
+use crate::slices::{self, Pieces, Word, Work};
 use crate::{Lattice, Refusal};
 
 /// How a word is cut best.
@@ -84,5 +85,40 @@ impl<'a> Lattice<'a> {
         let mut entries = vec![0.0; self.starts().len()];
         let sum = slices::expectations(self.word(), scores, &mut alpha, &mut beta, &mut entries)?;
         Ok(Expectations { sum, entries })
+    }
+}
+
+/// The best cut of one word over a list of pieces, with a score each. A piece's id is its index. Pieces of
+/// more than `setting` characters, which is at most 32, have no edge.
+///
+/// This indexes all pieces, for one word. To cut many words, build a [`Cache`](crate::Cache).
+pub fn cut(setting: usize, word: &[u8], pieces: &[&[u8]], scores: &[f64]) -> Cut {
+    let known = Spans::of(pieces);
+    let lent = Pieces {
+        setting,
+        text: &known.text,
+        pieces: &known.numbers,
+        scores,
+    };
+    let places = known.places();
+    let (mut keys, mut ends, mut table) = (
+        vec![0; places],
+        vec![0; places],
+        vec![0; 2 * pieces.len()],
+    );
+    let work = Work {
+        keys: &mut keys,
+        ends: &mut ends,
+        table: &mut table,
+    };
+    // A character has a byte or more.
+    let mut ids = vec![0; word.len().min(255)];
+    match slices::cut(word, lent, &mut ids, work) {
+        Err(refusal) => Cut::Refused(refusal),
+        Ok(_) if word.is_empty() => Cut::EmptyWord,
+        Ok((score, count)) => {
+            ids.truncate(count);
+            Cut::Pieces { ids, score }
+        }
     }
 }

@@ -22,6 +22,17 @@
 //! # Ok::<(), causeylark::Refusal>(())
 //! ```
 //!
+//! One word by itself, where nothing to cut and nothing that could spell it are told apart:
+//!
+//! ```
+//! use causeylark::{cut, Cut, Refusal};
+//!
+//! let (pieces, scores) = ([&b"a"[..], b"b", b"ab", b"ba"], [-1.0, -1.0, -2.0, -2.0]);
+//! assert_eq!(cut(16, b"aba", &pieces, &scores), Cut::Pieces { ids: vec![0, 3], score: -3.0 });
+//! assert_eq!(cut(16, b"", &pieces, &scores), Cut::EmptyWord);
+//! assert_eq!(cut(16, b"abc", &pieces, &scores), Cut::Refused(Refusal::NoPath));
+//! ```
+//!
 //! And the mathematics, of which docs/MATH.md fixes every bit: [`exp`], [`ln`], [`ln_1p`].
 #![warn(missing_docs)]
 
@@ -32,7 +43,7 @@ mod refusal;
 pub mod slices;
 
 pub use cache::{Cache, Edge, Lattice, PRUNED};
-pub use cuts::{Cut, Expectations};
+pub use cuts::{cut, Cut, Expectations};
 pub use refusal::Refusal;
 
 /// e^x.

@@ -15,7 +15,7 @@ pub enum Refusal {
     NoRoom(u64),
     /// 9: the lattice of the word at this index is not well formed, or a piece of it has no score.
     BadLattice(u64),
-    /// 10: the score of the piece of this id is NaN or above zero.
+    /// 10: the score of the piece of this id is NaN or above zero, or missing where one word is cut.
     BadScore(u64),
     /// 11: no cut has a finite sum.
     NoPath,
@@ -112,7 +112,7 @@ impl fmt::Display for Refusal {
             Refusal::NoRoom(4) => write!(to, "the path has fewer slots than the word has characters."),
             Refusal::NoRoom(_) => write!(to, "the lattices exceed the slots that were lent."),
             Refusal::BadLattice(word) => write!(to, "the lattice of word {word} is not well formed."),
-            Refusal::BadScore(id) => write!(to, "the score of piece {id} is NaN or above zero."),
+            Refusal::BadScore(id) => write!(to, "the score of piece {id} is NaN, above zero or missing."),
             Refusal::NoPath => write!(to, "no cut has a finite sum."),
             Refusal::BadRemap(entry) => write!(
                 to,

@@ -288,3 +288,54 @@ pub fn expectations(
     };
     answer(number, told[0]).map(|_| sum[0])
 }
+
+/// The pieces over which one word is cut: spans of their text, with a score each.
+#[derive(Clone, Copy, Debug)]
+pub struct Pieces<'a> {
+    /// The piece length setting, at most 32 characters.
+    pub setting: usize,
+    /// The bytes of the pieces.
+    pub text: &'a [u8],
+    /// Two numbers a piece: where its bytes begin in the text, and how many they are.
+    pub pieces: &'a [u32],
+    /// A score each, at zero or below.
+    pub scores: &'a [f64],
+}
+
+/// The score of the best cut of one word, and how many pieces it has; their ids stand in front of `path`,
+/// which has a slot for each character of the word.
+pub fn cut(
+    word: &[u8],
+    pieces: Pieces<'_>,
+    path: &mut [u32],
+    work: Work<'_>,
+) -> Result<(f64, usize), Refusal> {
+    let (mut sum, mut told) = ([0.0], [0]);
+    // SAFETY: each pointer and count is a slice, and no two that are written to overlap.
+    let number = unsafe {
+        c::causeylark_cut(
+            pieces.setting,
+            word.as_ptr(),
+            word.len(),
+            pieces.text.as_ptr(),
+            pieces.text.len(),
+            pieces.pieces.as_ptr(),
+            pieces.pieces.len(),
+            pieces.scores.as_ptr(),
+            pieces.scores.len(),
+            path.as_mut_ptr(),
+            path.len(),
+            work.keys.as_mut_ptr(),
+            work.keys.len(),
+            work.ends.as_mut_ptr(),
+            work.ends.len(),
+            work.table.as_mut_ptr(),
+            work.table.len(),
+            sum.as_mut_ptr(),
+            sum.len(),
+            told.as_mut_ptr(),
+            told.len(),
+        )
+    };
+    answer(number, told[0]).map(|count| (sum[0], count))
+}

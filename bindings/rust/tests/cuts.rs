@@ -1,6 +1,6 @@
 //! Document 01's examples of cuts, and a refusal of each kind, through the safe wrapper.
 
-use causeylark::{c, slices, Cache, Cut, Refusal};
+use causeylark::{c, cut, slices, Cache, Cut, Refusal};
 
 const PIECES: [&[u8]; 4] = [b"a", b"b", b"ab", b"ba"];
 const SCORES: [f64; 4] = [-1.0, -1.0, -2.0, -2.0];
@@ -223,7 +223,7 @@ fn a_refusal_is_a_sentence() {
     let said = Refusal::BadScore(3).to_string();
     assert_eq!(
         said,
-        "BadScore, number 10, at place 3: the score of piece 3 is NaN or above zero."
+        "BadScore, number 10, at place 3: the score of piece 3 is NaN, above zero or missing."
     );
     for refusal in [Refusal::NoPath, Refusal::NoRoom(4), Refusal::BadLattice(0)] {
         let said = refusal.to_string();
@@ -235,4 +235,40 @@ fn a_refusal_is_a_sentence() {
         );
         assert!(said.starts_with(&begins) && said.ends_with('.'), "{said}");
     }
+}
+
+#[test]
+fn one_word_is_cut_or_refused_in_order() {
+    let pieces = [&b"a"[..], b"b", b"ab", b"ba"];
+    let scores = [-1.0, -1.0, -2.0, -2.0];
+    let best = Cut::Pieces {
+        ids: vec![0, 3],
+        score: -3.0,
+    };
+    assert_eq!(cut(16, b"aba", &pieces, &scores), best);
+    assert_eq!(cut(16, b"", &pieces, &scores), Cut::EmptyWord);
+    assert_eq!(cut(16, b"", &[], &[]), Cut::EmptyWord);
+    let refused = |setting, word: &[u8], pieces: &[&[u8]], scores: &[f64]| {
+        match cut(setting, word, pieces, scores) {
+            Cut::Refused(refusal) => (refusal.number(), refusal.place()),
+            other => panic!("{other:?}"),
+        }
+    };
+    let long = [b'a'; 256];
+    // Each call has what the next ones are refused for, too.
+    assert_eq!(refused(33, &long, &[b"\xff", b"\xff"], &[]), (2, 3));
+    assert_eq!(refused(32, &long, &[b"\xff", b"\xff"], &[]), (3, 0));
+    assert_eq!(refused(32, b"\xc0\x80", &[b"\xff", b"\xff"], &[]), (3, 0));
+    assert_eq!(refused(32, &long[1..], &[b"a", b"\xff", b"a"], &[]), (14, 1));
+    assert_eq!(refused(32, b"c", &[b"a", b"b", b"a"], &[]), (15, 2));
+    assert_eq!(refused(32, b"c", &[b"a", b"b"], &[-1.0, f64::NAN]), (10, 1));
+    assert_eq!(refused(32, b"c", &[b"a", b"b"], &[-1.0]), (10, 1));
+    assert_eq!(refused(32, b"c", &[b"a"], &[-1.0, 1.0]), (10, 1));
+    assert_eq!(refused(32, b"c", &[b"a"], &[-1.0]), (11, 0));
+    assert_eq!(refused(32, b"ab", &pieces[..2], &[-1.7e308; 2]), (11, 0));
+    let that = Cut::Pieces {
+        ids: vec![2],
+        score: -3.0,
+    };
+    assert_eq!(cut(32, b"ab", &pieces[..3], &[-1.7e308, -1.7e308, -3.0]), that);
 }
