@@ -6,13 +6,14 @@
     python3 tools/rust.py lattices [--library FILE] [--cases N] [--seed N]
                                                          lattices and refusals against the Rust original
     python3 tools/rust.py cuts [--library FILE] [--cases N] [--seed N]
-                                                         cuts, expectations and refusals against the Rust original
+                                                         cuts, the one-word cut, expectations and refusals
+                                                         against the Rust original
     python3 tools/rust.py bench-math [--library FILE]    speed against libm
     python3 tools/rust.py bench-utf8 [--library FILE]    speed against std::str::from_utf8
     python3 tools/rust.py bench-lattices [--library FILE]
                                                          speed against the Rust original
-    python3 tools/rust.py bench-cuts [--library FILE]    the same of cuts and expectations; it needs
-                                                         tools/native-staticlib bench_cuts too
+    python3 tools/rust.py bench-cuts [--library FILE]    the same of cuts, the one-word cut and expectations; it
+                                                         needs tools/native-staticlib bench_cuts too
     python3 tools/rust.py filter                         the reference as a filter
 
 The library is the static library with the proved code, which

@@ -127,7 +127,7 @@ pub fn remap(random: &mut Random, pieces: usize) -> (Vec<u32>, usize) {
 }
 
 /// The strings as spans of a text: in any order, at times with bytes between that belong to none, or sharing bytes.
-fn spans(random: &mut Random, strings: &[String]) -> (Vec<u8>, Vec<u32>) {
+pub fn spans(random: &mut Random, strings: &[String]) -> (Vec<u8>, Vec<u32>) {
     let (apart, shared) = (random.once_in(2), random.once_in(2));
     let mut order: Vec<usize> = (0..strings.len()).collect();
     random.shuffle(&mut order);
@@ -206,26 +206,26 @@ fn other(random: &mut Random, number: u32) -> u32 {
 }
 
 /// Puts another number into a slot, if there is one.
-fn spoil(random: &mut Random, slots: &mut [u32]) {
+pub fn spoil(random: &mut Random, slots: &mut [u32]) {
     if !slots.is_empty() {
         let slot = random.below(slots.len());
         slots[slot] = other(random, slots[slot]);
     }
 }
 
-fn spoil_byte(random: &mut Random, bytes: &mut [u8]) {
+pub fn spoil_byte(random: &mut Random, bytes: &mut [u8]) {
     if !bytes.is_empty() {
         let byte = random.below(bytes.len());
         bytes[byte] = random.pick(&[0x80, 0xc0, 0xe0, 0xed, 0xf4, 0xff, b'a']);
     }
 }
 
-fn shorten(random: &mut Random, slots: &mut usize) {
+pub fn shorten(random: &mut Random, slots: &mut usize) {
     *slots -= random.pick(&[1, 1, 2, 20, usize::MAX]).min(*slots);
 }
 
 /// Gives a word or a piece the span of another, or one more of them the empty span.
-fn repeat(random: &mut Random, numbers: &mut Vec<u32>) {
+pub fn repeat(random: &mut Random, numbers: &mut Vec<u32>) {
     numbers.truncate(numbers.len() / 2 * 2);
     let many = numbers.len() / 2;
     if many > 0 && random.below(3) > 0 {
