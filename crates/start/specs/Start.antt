@@ -14,8 +14,11 @@ use Rattle.settings.specs.Check.{InBounds, Why as BadSettings}
 use Rattle.corpus.specs.Check.{InOrder, Why as BadWords}
 use Rattle.corpus.specs.Kept.{corpusOf, Kept}
 use Rattle.ranking.specs.Corpus.{Corpus}
+use Rattle.seed.specs.Seed.{slotsOf, Lists as SeedLists, Exceeds}
 use Rattle.start.specs.declared.Checked.{Checked}
 use Rattle.start.specs.declared.Checked.the-variants.{Fine, Refused as Denied}
+use Rattle.start.specs.declared.Started.{Started}
+use Rattle.start.specs.declared.Started.the-variants.{Seeded, Refused}
 
 -- a word has two numbers and a frequency; the shorter list counts
 abbrev pub countOf : List ℕ → List ℕ → ℕ
@@ -75,6 +78,10 @@ corpus x = corpusOf (x .text) (x .words) (x .frequencies)
 abbrev pub pool : Lent → ℕ
 pool x = poolOf (x .settings) (targetOf (x .settings) (many (x .specials)))
 
+-- "the piece slots (the shortest per-piece slice)"
+abbrev pub slots : Work → ℕ
+slots w = slotsOf (w .pieces) (w .tallies) (w .scores) (w .order) (w .work) (w .ranks)
+
 -- ---- 2, then 7 at 0, then 3, 4, 5 and 6
 pub data Bad (x : Lent) (Room : Type 0) : Refusal → Type 0 where
   bad-settings : {refusal : Refusal} → BadSettings (x .settings) (x .texts) (x .specials) refusal → Bad x Room refusal
@@ -89,3 +96,18 @@ pub record Fit (x : Lent) (Room : Type 0) : Type 0 where
 abbrev pub Checks : Lent → Type 0 → Checked → Type 0
 Checks x Room Fine = Fit x Room
 Checks x Room (Denied refusal) = Bad x Room refusal
+
+-- ---- then 7 at 1
+pub data Why (x : Lent) (w : Work) : Refusal → Type 0 where
+  bad : {refusal : Refusal} → Bad x (Room x w) refusal → Why x w refusal
+  no-slots : Fit x (Room x w) → Exceeds (corpus x) (x .settings .«max_piece_chars») (x .settings .«min_frequency») (slots w) → Why x w (NoRoom 1)
+
+-- ---- or the words that are UTF-8, and their list
+pub record Given (x : Lent) (w : Work) (y : Left) (words pieces required : ℕ) : Type 0 where
+  pub fit : Fit x (Room x w)
+  pub words-are : Kept (x .text) (x .words) (x .frequencies) (many (x .words)) (w .kept) (w .counts) (y .kept) (y .counts) words
+  pub list : SeedLists (x .text) (corpus x) (x .settings .«max_piece_chars») (x .settings .«min_frequency») (pool x) (slots w) (y .pieces) (y .tallies) (y .scores) required pieces
+
+abbrev pub Answers : Lent → Work → Left → Started → Type 0
+Answers x w y (Seeded words pieces required) = Given x w y words pieces required
+Answers x w y (Refused refusal) = Why x w refusal

@@ -5,15 +5,20 @@
 //
 // A word has two numbers and a frequency, and the shorter list counts. A slice that a position indexes has to have a slot for
 // each byte of the text, and for each byte of all words together, which may overlap in the text.
+use corpus::utf8_words;
 use refusal::Refusal;
+use seed::Answer;
+use seed::seed;
 use settings::Settings;
 ghost use mathlib.Core.Path.{_≡_};
 ghost use Prim.Native.Nat.{_*_, _≤_, _<_, min};
-ghost use lib.ListN.{length};
+ghost use lib.ListN.{length, take};
 ghost use Rattle.laws.specs.Tests.{Says};
 ghost use Rattle.spans.specs.Spans.{many, bytes};
 ghost use Rattle.positions.specs.Gathered.{bytesBefore};
-ghost use Rattle.start.specs.Start.{countOf, positionsOf, Bounded, Checks};
+ghost use Rattle.seed.specs.Seed.{slotsOf};
+ghost use Rattle.start.specs.Start.{countOf, positionsOf, Bounded, Checks, Answers};
+ghost use Rattle.start.specs.Steps.{Listing, Lists};
 
 // How many words are UTF-8, how many pieces the list has after its cut, and how many of them are required; or why there is none.
 pub enum Started {
@@ -138,4 +143,158 @@ fn check(
         corpus::Checked::Refused(refusal) => Checked::Refused(refusal),
         corpus::Checked::Fine => Checked::Fine,
     }
+}
+
+// Copies out the words that are UTF-8 and makes their list, of what was checked.
+fn list(
+    settings: Settings,
+    specials: usize,
+    text: &[u8],
+    words: &[u32],
+    frequencies: &[u64],
+    kept: &mut [u32],
+    counts: &mut [u64],
+    chars: &mut [u32],
+    places: &mut [u32],
+    order: &mut [u32],
+    work: &mut [u32],
+    ranks: &mut [u64],
+    pieces: &mut [u32],
+    tallies: &mut [u64],
+    scores: &mut [f64],
+) -> Started
+    requires { ⌜ Listing settings (now text) (now words) (now frequencies) (now kept) (now counts) (now chars) (now places) (now order) (now work) (now ranks) ⌝ }
+    ensures { λ r. ⌜ Lists settings specials (now (text .entry)) (now (words .entry)) (now (frequencies .entry)) (slotsOf (now (pieces .entry)) (now (tallies .entry)) (now (scores .entry)) (now (order .entry)) (now (work .entry)) (now (ranks .entry))) (now (kept .entry)) (now (counts .entry)) (record { kept = now (kept .exit); counts = now (counts .exit); pieces = now (pieces .exit); tallies = now (tallies .exit); scores = now (scores .exit) }) r ⌝ }
+{
+    let many = utf8_words(text, words, frequencies, kept, counts);
+    let numbers = 2 * many;
+    let pool = settings.pool(settings.target(specials));
+    match seed(
+        text,
+        &kept[..numbers],
+        &counts[..many],
+        settings.max_piece_chars,
+        settings.min_frequency,
+        pool,
+        chars,
+        places,
+        order,
+        work,
+        ranks,
+        pieces,
+        tallies,
+        scores,
+    ) {
+        Answer::NoRoom => Started::Refused(Refusal::NoRoom(refusal::NO_ROOM_PIECES)),
+        Answer::Listed {
+            required,
+            many: listed,
+        } => Started::Seeded {
+            words: many,
+            pieces: listed,
+            required,
+        },
+    }
+}
+
+// The same of words and frequencies that are equally many: checks, and lists.
+fn check_and_list(
+    settings: Settings,
+    texts: &[u8],
+    specials: &[u32],
+    text: &[u8],
+    words: &[u32],
+    frequencies: &[u64],
+    kept: &mut [u32],
+    counts: &mut [u64],
+    chars: &mut [u32],
+    places: &mut [u32],
+    order: &mut [u32],
+    work: &mut [u32],
+    ranks: &mut [u64],
+    pieces: &mut [u32],
+    tallies: &mut [u64],
+    scores: &mut [f64],
+    table: &mut [u32],
+) -> Started
+    requires { ⌜ length (now frequencies) ≡ many (now words) ⌝ }
+    ensures { λ r. ⌜ Answers (record { settings = settings; texts = now (texts .entry); specials = now (specials .entry); text = now (text .entry); words = now (words .entry); frequencies = now (frequencies .entry) }) (record { kept = now (kept .entry); counts = now (counts .entry); chars = now (chars .entry); places = now (places .entry); order = now (order .entry); work = now (work .entry); ranks = now (ranks .entry); pieces = now (pieces .entry); tallies = now (tallies .entry); scores = now (scores .entry); table = now (table .entry) }) (record { kept = now (kept .exit); counts = now (counts .exit); pieces = now (pieces .exit); tallies = now (tallies .exit); scores = now (scores .exit) }) r ⌝ }
+{
+    let room = positions(chars, places, order, work, ranks);
+    match check(
+        settings,
+        texts,
+        specials,
+        text,
+        words,
+        frequencies,
+        kept,
+        counts,
+        table,
+        room,
+    ) {
+        Checked::Refused(refusal) => Started::Refused(refusal),
+        Checked::Fine => list(
+            settings,
+            spans::count(specials),
+            text,
+            words,
+            frequencies,
+            kept,
+            counts,
+            chars,
+            places,
+            order,
+            work,
+            ranks,
+            pieces,
+            tallies,
+            scores,
+        ),
+    }
+}
+
+// Makes the seed list of the words that are lent, or refuses.
+pub fn start(
+    settings: Settings,
+    texts: &[u8],
+    specials: &[u32],
+    text: &[u8],
+    words: &[u32],
+    frequencies: &[u64],
+    kept: &mut [u32],
+    counts: &mut [u64],
+    chars: &mut [u32],
+    places: &mut [u32],
+    order: &mut [u32],
+    work: &mut [u32],
+    ranks: &mut [u64],
+    pieces: &mut [u32],
+    tallies: &mut [u64],
+    scores: &mut [f64],
+    table: &mut [u32],
+) -> Started
+    ensures { λ r. ⌜ Answers (record { settings = settings; texts = now (texts .entry); specials = now (specials .entry); text = now (text .entry); words = take (2 * (countOf (now (words .entry)) (now (frequencies .entry)))) (now (words .entry)); frequencies = take (countOf (now (words .entry)) (now (frequencies .entry))) (now (frequencies .entry)) }) (record { kept = now (kept .entry); counts = now (counts .entry); chars = now (chars .entry); places = now (places .entry); order = now (order .entry); work = now (work .entry); ranks = now (ranks .entry); pieces = now (pieces .entry); tallies = now (tallies .entry); scores = now (scores .entry); table = now (table .entry) }) (record { kept = now (kept .exit); counts = now (counts .exit); pieces = now (pieces .exit); tallies = now (tallies .exit); scores = now (scores .exit) }) r ⌝ }
+{
+    let many = count(words, frequencies);
+    let numbers = 2 * many;
+    check_and_list(
+        settings,
+        texts,
+        specials,
+        text,
+        &words[..numbers],
+        &frequencies[..many],
+        kept,
+        counts,
+        chars,
+        places,
+        order,
+        work,
+        ranks,
+        pieces,
+        tallies,
+        scores,
+        table,
+    )
 }

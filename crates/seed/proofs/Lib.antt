@@ -1,0 +1,4 @@
+pub mod Slices
+pub mod Corpora
+pub mod Top
+pub mod Theorems

@@ -1,0 +1,4 @@
+pub mod Halves
+pub mod Sorted
+pub mod Finding
+pub mod Parts
