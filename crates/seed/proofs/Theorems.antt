@@ -12,10 +12,12 @@ use Rattle.ranking.specs.Scores.{seedScores}
 use Rattle.ranking.proofs.Theorems.{seeded-unique, uncut-unique}
 use Rattle.seed.specs.Seed.{Lists, Exceeds}
 
--- Of two lists that fit, the pieces spell the same strings, as many are required, and counts and scores are the same.
+-- Of two lists that fit, the pieces are as many and spell the same strings, as many are required, and counts and scores are the
+-- same. Which of a string's places in the text its span is, is left open.
 pub record Same (text : List ℕ) (required many : ℕ) (pieces tallies : List ℕ) (scores : List Float)
     (required′ many′ : ℕ) (pieces′ tallies′ : List ℕ) (scores′ : List Float) : Type 0 where
   pub same-required : required ≡ required′
+  pub same-many : many ≡ many′
   pub same-texts : listed text (take (2 * many) pieces) ≡ listed text (take (2 * many′) pieces′)
   pub same-counts : take many tallies ≡ take many′ tallies′
   pub same-scores : take many scores ≡ take many′ scores′
@@ -30,6 +32,7 @@ no-second {corpus = corpus} a b =
     let c = a .counts-are ∙ ap (counts corpus) (u .0) ∙ sym (b .counts-are) in
     record {
       same-required = u .1;
+      same-many = a .many-is ∙ ap length (u .0) ∙ sym (b .many-is);
       same-texts = u .0;
       same-counts = c;
       same-scores = a .scores-are ∙ ap seedScores c ∙ sym (b .scores-are);

@@ -19,7 +19,7 @@ use Rattle.ranking.specs.Seed.{Uncut, Seeded}
 use Rattle.ranking.specs.Seed as seed
 use Rattle.ranking.specs.Scores.{seedScores}
 use Rattle.ranking.specs.Positions.{Positioned}
-use Rattle.ranking.specs.Counting.{Entry, inOrder, commons, entryAt, ranks, ranked, texts, tallies, foundCharacters, foundStrings, seedEntries}
+use Rattle.ranking.specs.Counting.{Entry, inOrder, commons, entryAt, ranks, ranked, spelt, texts, tallies, foundCharacters, foundStrings, seedEntries}
 use Rattle.ranking.specs.Slots.{packed, Put}
 use Rattle.ranking.proofs.Lists.{of-map, map-join}
 use Rattle.ranking.proofs.Bounds.{total, total-weight, few-places}
@@ -338,6 +338,7 @@ module _ {text words frequencies : List ℕ} {setting : ℕ} {chars places order
                 record {
                   seeded = subst (λ (k : ℕ). Seeded (corpusOf text words frequencies) setting least pool (listed text (take (2 * m) pieces′)) k) (sym required-is)
                       (subst (λ (x : List (List ℕ)). Seeded (corpusOf text words frequencies) setting least pool x (length fc)) (sym texts-are) (found-seeded setting least z pool));
+                  many-is = long ∙ sym (ap length texts-are ∙ length-map S (spelt (textAt chars′ places′)));
                   good = λ i i<m.
                       spelled-good g (a .words-good .good) (a .words-good .small) (a .words-good .far) (omega (arith, few)) S within refl spelled i (omega (arith, long));
                   counts-are = l .counts-are ∙ ap tallies same ∙ sym (found-tallies setting least z pool) ∙ ap (λ (x : List (List ℕ)). seed.counts (corpusOf text words frequencies) x) (sym texts-are);

@@ -35,6 +35,7 @@ pub record Asked (text words frequencies : List ℕ) (setting : ℕ) (chars plac
 -- the list: its pieces as spans of the text, their counts and scores
 pub record Lists (text : List ℕ) (corpus : Corpus) (setting least pool slots : ℕ) (pieces tallies : List ℕ) (scores : List Float) (required many : ℕ) : Type 0 where
   pub seeded : Seeded corpus setting least pool (listed text (take (2 * many) pieces)) required
+  pub many-is : many ≡ length (listed text (take (2 * many) pieces))
   pub good : AllGood text (take (2 * many) pieces) 255 many
   pub counts-are : take many tallies ≡ counts corpus (listed text (take (2 * many) pieces))
   pub scores-are : take many scores ≡ seedScores (take many tallies)
