@@ -2,3 +2,4 @@ pub mod Bytes
 pub mod Checking
 pub mod Words
 pub mod Listing
+pub mod Theorems

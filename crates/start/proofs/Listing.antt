@@ -15,16 +15,18 @@ use Rattle.corpus.proofs.Chosen.{chosen-few}
 use Rattle.corpus.proofs.Theorems.{kept-front, kept-corpus, ready}
 use Rattle.ranking.specs.Corpus.{Corpus, weight}
 use Rattle.seed.specs.Seed as seed
+use Rattle.seed.specs.declared.Answer.{Answer}
+use Rattle.seed.specs.declared.Answer.the-variants.{Listed, NoRoom}
 use Rattle.start.specs.Start.{positionsOf}
 use Rattle.start.specs.Steps.{Listing}
 use Rattle.start.proofs.Words.{cut-many, cut-good, cut-words, same-weight, kept-bytes}
 
 -- ---- each slice has as many positions as all
-below-left : {m a b : ℕ} → m ≤ min a b → m ≤ a
-below-left h = omega arith
+below-left : (m a b : ℕ) → m ≤ min a b → m ≤ a
+below-left m a b h = omega arith
 
-below-right : {m a b : ℕ} → m ≤ min a b → m ≤ b
-below-right h = omega arith
+below-right : (m a b : ℕ) → m ≤ min a b → m ≤ b
+below-right m a b h = omega arith
 
 pub record Roomy (chars places order work ranks : List ℕ) (m : ℕ) : Type 0 where
   pub in-chars : m ≤ length chars
@@ -35,15 +37,27 @@ pub record Roomy (chars places order work ranks : List ℕ) (m : ℕ) : Type 0 w
 
 roomy : (chars places order work ranks : List ℕ) {m : ℕ} → m ≤ positionsOf chars places order work ranks → Roomy chars places order work ranks m
 roomy chars places order work ranks {m} h =
-    let a = below-right {m} {length chars} h in
-    let p : m ≤ length places / 3 = below-left a in
-    let b = below-right {m} {length places / 3} a in
-    let c = below-right {m} {length order} b in
-    record { in-chars = below-left h; in-places = omega arith; in-order = below-left b; in-work = below-left c; in-ranks = below-right {m} {length work} c }
+    let sorting = min (length work) (length ranks) in
+    let sorted = min (length order) sorting in
+    let placed = min (length places / 3) sorted in
+    let a : m ≤ placed = below-right m (length chars) placed h in
+    let p : m ≤ length places / 3 = below-left m (length places / 3) sorted a in
+    let b : m ≤ sorted = below-right m (length places / 3) sorted a in
+    let c : m ≤ sorting = below-right m (length order) sorting b in
+    record {
+      in-chars = below-left m (length chars) placed h;
+      in-places = thrice m (length places) p;
+      in-order = below-left m (length order) sorting b;
+      in-work = below-left m (length work) (length ranks) c;
+      in-ranks = below-right m (length work) (length ranks) c;
+    }
+  where
+    thrice : (m n : ℕ) → m ≤ n / 3 → 3 * m ≤ n
+    thrice m n h = omega arith
 
 module _ (settings : Settings) (text lent frequencies kept counts chars places order work ranks : List ℕ) (l : Listing settings text lent frequencies kept counts chars places order work ranks)
     {kept' counts' : List ℕ} {r : ℕ} (k : words.Kept text lent frequencies (many lent) kept counts kept' counts' r) (same : length kept' ≡ length kept) (even : length counts' ≡ length counts) where
-  few : r ≤ many lent
+  pub few : r ≤ many lent
   few = let c = k .count in let h = chosen-few text lent (many lent) in omega arith
 
   pub spans-in : 2 * r ≤ length kept'
@@ -94,3 +108,17 @@ module _ (settings : Settings) (text lent frequencies kept counts chars places o
         work-room = room .in-work;
         keys-room = room .in-ranks;
       }
+
+  -- ---- what the list answers, said of the lent words
+  module _ (least pool pool' slots : ℕ) (pieces tallies : List ℕ) (scores : List Float) (pool-is : pool ≡ pool') (a : Answer)
+      (answers : seed.Answers text (seed.corpusOf text (take (2 * r) kept') (take r counts')) (settings .«max_piece_chars») least pool slots pieces tallies scores a) where
+    told : seed.Answers text (words.corpusOf text lent frequencies) (settings .«max_piece_chars») least pool' slots pieces tallies scores a
+    told =
+        subst (λ (n : ℕ). seed.Answers text (words.corpusOf text lent frequencies) (settings .«max_piece_chars») least n slots pieces tallies scores a) pool-is
+        (subst (λ (c : Corpus). seed.Answers text c (settings .«max_piece_chars») least pool slots pieces tallies scores a) corpus-is answers)
+
+    pub exceeds : a ≡ NoRoom → seed.Exceeds (words.corpusOf text lent frequencies) (settings .«max_piece_chars») least slots
+    exceeds e = subst (seed.Answers text (words.corpusOf text lent frequencies) (settings .«max_piece_chars») least pool' slots pieces tallies scores) e told
+
+    pub lists : (required many' : ℕ) → a ≡ Listed required many' → seed.Lists text (words.corpusOf text lent frequencies) (settings .«max_piece_chars») least pool' slots pieces tallies scores required many'
+    lists required many' e = subst (seed.Answers text (words.corpusOf text lent frequencies) (settings .«max_piece_chars») least pool' slots pieces tallies scores) e told
