@@ -29,7 +29,7 @@ impl Random {
         from[self.below(from.len())]
     }
 
-    fn shuffle<T>(&mut self, items: &mut [T]) {
+    pub fn shuffle<T>(&mut self, items: &mut [T]) {
         for last in (1..items.len()).rev() {
             items.swap(last, self.below(last + 1));
         }
@@ -61,13 +61,13 @@ impl Case {
 }
 
 /// A script's first letters.
-fn script(random: &mut Random) -> Vec<char> {
+pub fn script(random: &mut Random) -> Vec<char> {
     let many = 1 + random.below(8);
     random.pick(&SCRIPTS).chars().take(many).collect()
 }
 
 /// At most 255 bytes.
-fn word(random: &mut Random, letters: &[char]) -> String {
+pub fn word(random: &mut Random, letters: &[char]) -> String {
     let most = random.pick(&[0, 1, 2, 3, 8, 8, 20, 40, 255]);
     let mut word = String::new();
     for _ in 0..random.below(most + 1) {
@@ -127,13 +127,13 @@ pub fn remap(random: &mut Random, pieces: usize) -> (Vec<u32>, usize) {
 }
 
 /// The strings as spans of a text: in any order, at times with bytes between that belong to none, or sharing bytes.
-fn spans(random: &mut Random, strings: &[String]) -> (Vec<u8>, Vec<u32>) {
+pub fn spans(random: &mut Random, strings: &[impl AsRef<[u8]>]) -> (Vec<u8>, Vec<u32>) {
     let (apart, shared) = (random.once_in(2), random.once_in(2));
     let mut order: Vec<usize> = (0..strings.len()).collect();
     random.shuffle(&mut order);
     let (mut text, mut numbers) = (Vec::new(), vec![0; 2 * strings.len()]);
     for index in order {
-        let bytes = strings[index].as_bytes();
+        let bytes = strings[index].as_ref();
         if apart {
             text.extend((0..random.below(3)).map(|_| random.bits() as u8));
         }
@@ -192,7 +192,7 @@ pub fn sizes(random: &mut Random, lent: &Lent, used: &Cache, nodes: usize, piece
 }
 
 /// A number near this one, or far from it.
-fn other(random: &mut Random, number: u32) -> u32 {
+pub fn other(random: &mut Random, number: u32) -> u32 {
     let far = random.bits() as u32;
     random.pick(&[
         number.wrapping_add(1),
@@ -206,21 +206,21 @@ fn other(random: &mut Random, number: u32) -> u32 {
 }
 
 /// Puts another number into a slot, if there is one.
-fn spoil(random: &mut Random, slots: &mut [u32]) {
+pub fn spoil(random: &mut Random, slots: &mut [u32]) {
     if !slots.is_empty() {
         let slot = random.below(slots.len());
         slots[slot] = other(random, slots[slot]);
     }
 }
 
-fn spoil_byte(random: &mut Random, bytes: &mut [u8]) {
+pub fn spoil_byte(random: &mut Random, bytes: &mut [u8]) {
     if !bytes.is_empty() {
         let byte = random.below(bytes.len());
         bytes[byte] = random.pick(&[0x80, 0xc0, 0xe0, 0xed, 0xf4, 0xff, b'a']);
     }
 }
 
-fn shorten(random: &mut Random, slots: &mut usize) {
+pub fn shorten(random: &mut Random, slots: &mut usize) {
     *slots -= random.pick(&[1, 1, 2, 20, usize::MAX]).min(*slots);
 }
 
