@@ -45,7 +45,7 @@ fn bounded(words: impl Iterator<Item = String>) -> Vec<String> {
 
 /// a, aa, aaa, .. up to 255 letters, and words of one and two letters.
 fn one_letter() -> Vec<String> {
-    let letters: Vec<char> = ('a'..='z').chain('α'..='ω').chain('а'..='я').chain('一'..='丠').collect();
+    let letters: Vec<char> = ('a'..='z').chain('α'..='ω').chain('а'..='я').chain('一'..='丯').collect();
     let pairs = || letters.iter().flat_map(|a| letters.iter().map(move |b| format!("{a}{b}")));
     let ones = letters.iter().map(char::to_string);
     bounded((1..=255).map(|long| "a".repeat(long)).chain(ones).chain(pairs()))

@@ -163,7 +163,7 @@ pub fn pieces<'a>(lent: &'a Lent, slots: &Slots, count: usize) -> Vec<Piece<'a>>
 }
 
 /// The same of the original's list.
-pub fn originals(pieces: &[(String, u64)], scores: &[f64]) -> Vec<Piece<'_>> {
+pub fn originals<'a>(pieces: &'a [(String, u64)], scores: &[f64]) -> Vec<Piece<'a>> {
     let scores = scores.iter().map(|score| score.to_bits());
     pieces
         .iter()
