@@ -6,7 +6,8 @@
     python3 tools/rust.py lattices [--library FILE] [--cases N] [--seed N]
                                                          lattices and refusals against the Rust original
     python3 tools/rust.py cuts [--library FILE] [--cases N] [--seed N]
-                                                         cuts, expectations and refusals against the Rust original
+                                                         cuts, the one-word cut, expectations and refusals
+                                                         against the Rust original
     python3 tools/rust.py seeds [--library FILE] [--cases N] [--seed N]
                                                          seed lists and refusals against the Rust original; it needs
                                                          tools/native-staticlib bench_seed too
@@ -14,8 +15,8 @@
     python3 tools/rust.py bench-utf8 [--library FILE]    speed against std::str::from_utf8
     python3 tools/rust.py bench-lattices [--library FILE]
                                                          speed against the Rust original
-    python3 tools/rust.py bench-cuts [--library FILE]    the same of cuts and expectations; it needs
-                                                         tools/native-staticlib bench_cuts too
+    python3 tools/rust.py bench-cuts [--library FILE]    the same of cuts, the one-word cut and expectations; it
+                                                         needs tools/native-staticlib bench_cuts too
     python3 tools/rust.py bench-seed [--library FILE] [--rounds N]
                                                          the same of seed lists; it needs bench_seed as seeds does
     python3 tools/rust.py filter                         the reference as a filter

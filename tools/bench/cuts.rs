@@ -12,14 +12,17 @@
 //! All of it is one program and one thread. The words are parted into parts of 128, and rounds of all that is measured
 //! alternate part by part: the least of each part counts, and their sum is shown. So a machine that does other work besides
 //! disturbs little. Every answer is compared with the original's in a first round, which does not count.
+//!
+//! Then the one-word cut, as one_word.rs says.
 
 mod corpus;
+mod one_word;
 #[allow(dead_code)]
 #[path = "../math/random.rs"]
 mod random;
 
 use causeylark::slices::{self, Word};
-use causeylark::{Cache, Cut};
+use causeylark::{Cache, Cut, Lattice};
 use corpus::{pieces, words, SETTING};
 use random::Random;
 use std::cell::RefCell;
@@ -294,7 +297,7 @@ struct Own {
 }
 
 fn own_pieces(cache: &Cache, scores: &[f64]) -> Vec<Own> {
-    let of = |word: causeylark::Lattice<'_>| {
+    let of = |word: Lattice<'_>| {
         let mut own = Own::default();
         for id in word.ids() {
             let next = own.scores.len() as u32;
@@ -338,7 +341,7 @@ impl Part {
 
     /// With each word's own pieces, and the first piece of its best cut.
     fn scored(mut self, scores: &[f64]) -> Part {
-        let first = |word: causeylark::Lattice<'_>| match word.viterbi(scores) {
+        let first = |word: Lattice<'_>| match word.viterbi(scores) {
             Cut::Pieces { ids, .. } => ids[0],
             other => panic!("a word with no cut: {other:?}"),
         };
@@ -411,15 +414,16 @@ impl<'a> Row<'a> {
     }
 }
 
-/// The rows of one call, the first of which is the original's with our mathematics: measured, compared and shown.
-fn measure(rows: &[Row<'_>], parts: &[Part], edges: usize) {
+/// The rows of one call, the first of which is the original's with our mathematics: measured and compared. Answers go to a
+/// copy of each part's blank ones.
+fn measure(rows: &[Row<'_>], blanks: &[Answers]) -> Vec<f64> {
     let mut totals = vec![0.0; rows.len()];
-    for (part, at) in parts.iter().zip(0..) {
-        let mut answers: Vec<Answers> = rows.iter().map(|_| part.blank.clone()).collect();
+    for (part, blank) in blanks.iter().enumerate() {
+        let mut answers = vec![blank.clone(); rows.len()];
         let mut least = vec![f64::INFINITY; rows.len()];
         for round in 0..=ROUNDS {
             for ((row, answers), least) in rows.iter().zip(&mut answers).zip(&mut least) {
-                let time = row.time(at, answers);
+                let time = row.time(part, answers);
                 *least = if round == 0 {
                     f64::INFINITY
                 } else {
@@ -444,7 +448,11 @@ fn measure(rows: &[Row<'_>], parts: &[Part], edges: usize) {
             .zip(least)
             .for_each(|(total, least)| *total += least);
     }
-    for (row, total) in rows.iter().zip(&totals) {
+    totals
+}
+
+fn show(rows: &[Row<'_>], totals: &[f64], edges: usize) {
+    for (row, total) in rows.iter().zip(totals) {
         let (each, ratio) = (1e9 * total / edges as f64, total / totals[0]);
         println!(
             "{:<54}  {:8.2}  {each:7.2}  {ratio:6.2}",
@@ -452,6 +460,15 @@ fn measure(rows: &[Row<'_>], parts: &[Part], edges: usize) {
             1e3 * total
         );
     }
+}
+
+/// The logarithm of each piece's part of all edges.
+fn scores_of<'a>(lattices: impl Iterator<Item = Lattice<'a>>, pieces: usize) -> Vec<f64> {
+    // An edge more of each piece than there is, so that none has the part 0.
+    let mut counts = vec![1.0; pieces];
+    lattices.for_each(|word| word.ids().iter().for_each(|id| counts[*id as usize] += 1.0));
+    let total: f64 = counts.iter().sum();
+    counts.iter().map(|count| f64::ln(count / total)).collect()
 }
 
 fn main() {
@@ -462,12 +479,8 @@ fn main() {
         .map(|words| Part::of(words, &pieces))
         .collect();
 
-    // An edge more of each piece than there is, so that none has the part 0.
-    let mut counts = vec![1.0; pieces.len()];
     let lattices = || parts.iter().flat_map(|part| part.cache.lattices());
-    lattices().for_each(|word| word.ids().iter().for_each(|id| counts[*id as usize] += 1.0));
-    let total: f64 = counts.iter().sum();
-    let scores: Vec<f64> = counts.iter().map(|count| f64::ln(count / total)).collect();
+    let scores = scores_of(lattices(), pieces.len());
     let slots = 1 + lattices().map(|word| word.characters()).max().unwrap();
     let characters: usize = lattices().map(|word| word.characters()).sum();
     let parts: Vec<Part> = parts.into_iter().map(|part| part.scored(&scores)).collect();
@@ -492,6 +505,7 @@ fn main() {
 
     let all: &Vec<Lent<'_>> = &parts.iter().map(|part| part.all(scores)).collect();
     let alone: &Vec<Lent<'_>> = &parts.iter().map(Part::alone).collect();
+    let blanks: &Vec<Answers> = &parts.iter().map(|part| part.blank.clone()).collect();
     let work = &RefCell::new(Work::of(slots));
     let ours = |call: fn(&Lent<'_>, &mut Work, &mut Answers), lent| {
         let lent: &Vec<Lent<'_>> = lent;
@@ -518,7 +532,7 @@ fn main() {
             ours(call_expectations, all),
         ),
     ];
-    measure(&rows, parts, edges);
+    show(&rows, &measure(&rows, blanks), edges);
     let rows = [
         Row::new("viterbi, original", |part, answers| {
             original::viterbi(&parts[part].original, scores, answers)
@@ -530,7 +544,7 @@ fn main() {
         ),
         Row::new("viterbi, ours, call, all scores", ours(call_viterbi, all)),
     ];
-    measure(&rows, parts, edges);
+    show(&rows, &measure(&rows, blanks), edges);
     let rows = [
         Row::new("viterbi_excluding, original", |part, answers| {
             original::excluding(
@@ -550,5 +564,6 @@ fn main() {
             ours(call_excluding, all),
         ),
     ];
-    measure(&rows, parts, edges);
+    show(&rows, &measure(&rows, blanks), edges);
+    one_word::both(&words, &pieces);
 }

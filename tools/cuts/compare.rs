@@ -6,6 +6,9 @@
 //! every edge's expectation. Then what is lent is damaged, and plain.rs works out which refusal should come of it, at which
 //! place; where none should, the original is asked again.
 //!
+//! Each word goes through the one-word cut too, over all pieces: whole, and then damaged. Where two refusals apply that stand
+//! side by side in its order, the first has to come; that is counted as well.
+//!
 //! Slots that no answer fills are as they were, and all are after a refusal. The work slices hold zeros after every call,
 //! whatever they held before. One difference fails, and so does a kind that never came.
 //!
@@ -16,6 +19,7 @@
 #[path = "../lattices/cases.rs"]
 mod cases;
 mod cuts;
+mod one_word;
 #[allow(dead_code)]
 #[path = "../lattices/plain.rs"]
 mod plain;
@@ -25,10 +29,10 @@ mod random;
 #[path = "plain.rs"]
 mod refusals;
 
-use causeylark::slices::{self, Word};
+use causeylark::slices::{self, Pieces, Word, Work};
 use causeylark::Refusal;
 use random::Random;
-use refusals::{Edge, Lent, No, Rooms};
+use refusals::{Edge, Lent, No, OneWord, Rooms, WordRooms};
 use std::collections::BTreeMap;
 
 const SHOWN: usize = 10;
@@ -75,6 +79,57 @@ const OTHERS: [(&str, u32, &str); 26] = [
     ("expectations", 7, "room 3, beta"),
     ("expectations", 7, "room 3, entries"),
 ];
+const ONE_WORD: &str = "one word";
+/// Of the one-word cut.
+const WHOLE: [(u32, &str); 30] = [
+    (0, "accepted"),
+    (0, "accepted, damaged"),
+    (0, "accepted, half of the places taken"),
+    (0, "accepted, more scores than pieces"),
+    (0, "accepted, of 255 bytes"),
+    (0, "an empty word"),
+    (2, "piece length"),
+    (7, "room 0, pieces"),
+    (7, "room 0, piece text"),
+    (7, "room 0, table"),
+    (7, "room 0, table by one"),
+    (3, "too long"),
+    (3, "too long by one"),
+    (3, "not UTF-8"),
+    (14, "outside its text"),
+    (14, "not UTF-8"),
+    (15, "a spelling"),
+    (15, "the empty one"),
+    (10, "NaN"),
+    (10, "NaN, of no piece"),
+    (10, "above zero"),
+    (10, "above zero, of no piece"),
+    (10, "missing"),
+    (7, "room 2, keys"),
+    (7, "room 2, keys by one"),
+    (7, "room 2, ends"),
+    (7, "room 2, ends by one"),
+    (7, "room 4, path"),
+    (7, "room 4, path by one"),
+    (11, "no finite sum"),
+];
+const BOTH: &str = "both apply";
+/// Of the one-word cut: the refusal that came, where the next in its order applied too.
+const ORDER: [(u32, &str); 8] = [
+    (2, "and 7 at 0"),
+    (7, "at 0, and 3"),
+    (3, "and 14"),
+    (14, "and 15"),
+    (15, "and 10"),
+    (10, "and 7 at 2"),
+    (7, "at 2, and 7 at 4"),
+    (7, "at 4, and 11"),
+];
+const NO_PATH: No = No {
+    number: 11,
+    place: 0,
+    why: "no finite sum",
+};
 
 struct Comparison {
     random: Random,
@@ -82,6 +137,7 @@ struct Comparison {
     counts: BTreeMap<(&'static str, u32, &'static str), u64>,
     edges: usize,
     cuts: usize,
+    one_word_cuts: usize,
     differences: usize,
 }
 
@@ -117,12 +173,22 @@ fn best_cut(lent: &Lent, rooms: &Rooms) -> Wanted<u32> {
     let edges = refusals::viterbi(lent, rooms)?;
     match original(lent, &edges).viterbi(&lent.scores) {
         Some((score, path)) => Ok((score, path.len(), path)),
-        None => Err(No {
-            number: 11,
-            place: 0,
-            why: "no finite sum",
-        }),
+        None => Err(NO_PATH),
     }
+}
+
+/// What applies of each refusal of the one-word cut, and the original's cut. It is asked where no more is wrong than that
+/// there is too little room.
+fn one_cut(lent: &OneWord, rooms: &WordRooms) -> ([Option<No>; 9], Option<(f64, Vec<u32>)>) {
+    let mut noes = [None; 9];
+    noes[..8].copy_from_slice(&refusals::one_word(lent, rooms));
+    if noes[..6].iter().any(Option::is_some) {
+        return (noes, None);
+    }
+    let (word, pieces) = (lent.spelt().unwrap(), lent.spellings().unwrap());
+    let cut = original::Trie::build(&pieces).cut(lent.setting, word, &lent.scores);
+    noes[8] = cut.is_none().then_some(NO_PATH);
+    (noes, cut)
 }
 
 impl Comparison {
@@ -294,6 +360,71 @@ impl Comparison {
         );
     }
 
+    fn one_word(&mut self, good: &'static str, lent: &OneWord, rooms: &WordRooms) {
+        let mut keys: Vec<u64> = (0..rooms.keys).map(|_| self.random.bits()).collect();
+        let (mut ends, mut table) = (self.junk(rooms.ends), self.junk(rooms.table));
+        let before = self.junk(rooms.path);
+        let mut path = before.clone();
+        let pieces = Pieces {
+            setting: lent.setting,
+            text: &lent.text,
+            pieces: &lent.pieces,
+            scores: &lent.scores,
+        };
+        let work = Work {
+            keys: &mut keys,
+            ends: &mut ends,
+            table: &mut table,
+        };
+        let said = slices::cut(&lent.word, pieces, &mut path, work);
+        let (noes, cut) = one_cut(lent, rooms);
+        let first = noes.iter().position(Option::is_some);
+        let wanted = match (first, cut) {
+            (None, Some((score, path))) => Ok((score, path.len(), path)),
+            (first, _) => Err(noes[first.unwrap()].unwrap()),
+        };
+        if let Some(step) = first.filter(|step| noes.get(step + 1).is_some_and(Option::is_some)) {
+            let (number, why) = ORDER[step];
+            *self.counts.entry((BOTH, number, why)).or_default() += 1;
+        }
+        self.one_word_cuts += usize::from(wanted.is_ok());
+        let good = match wanted {
+            Err(_) => good,
+            _ if lent.word.is_empty() => "an empty word",
+            _ if lent.word.len() == 255 => "accepted, of 255 bytes",
+            _ if lent.scores.len() > lent.pieces.len() / 2 => "accepted, more scores than pieces",
+            _ if lent.places() == Some(rooms.keys.min(rooms.ends)) => {
+                "accepted, half of the places taken"
+            }
+            _ => good,
+        };
+        let clear = keys.iter().all(|&key| key == 0) && zeros(&[], &ends) && zeros(&[], &table);
+        self.judge(ONE_WORD, good, &wanted, said, (&before, &path), clear);
+    }
+
+    /// The one-word cut of each word, over the same pieces and scores.
+    fn one_by_one(&mut self, case: &cases::Case, scores: Vec<f64>) {
+        let (text, pieces) = cases::spans(&mut self.random, &case.pieces);
+        let mut lent = OneWord {
+            setting: case.setting,
+            word: Vec::new(),
+            text,
+            pieces,
+            scores,
+        };
+        let places = lent.places().unwrap();
+        for word in &case.words {
+            lent.word = word.clone().into_bytes();
+            let mut rooms = one_word::rooms(&mut self.random, &lent, places);
+            self.one_word("accepted", &lent, &rooms);
+            let mut lent = lent.clone();
+            for _ in 0..self.random.pick(&[1, 1, 2, 3]) {
+                one_word::damage(&mut self.random, &mut lent, &mut rooms);
+            }
+            self.one_word("accepted, damaged", &lent, &rooms);
+        }
+    }
+
     fn all(&mut self, good: &'static str, lent: &Lent, rooms: &Rooms) {
         self.viterbi(good, lent, rooms);
         self.short(good, lent, rooms);
@@ -323,6 +454,7 @@ impl Comparison {
             }
             self.all("accepted, damaged", &lent, &rooms);
         }
+        self.one_by_one(&case, scores);
     }
 
     fn report(&mut self, cases: usize) {
@@ -332,14 +464,16 @@ impl Comparison {
         let every = CALLS
             .iter()
             .flat_map(|call| FORMED.map(|(number, why)| (*call, number, why)));
-        for kind in every.chain(OTHERS) {
+        let whole = WHOLE.map(|(number, why)| (ONE_WORD, number, why));
+        let order = ORDER.map(|(number, why)| (BOTH, number, why));
+        for kind in every.chain(OTHERS).chain(whole).chain(order) {
             if cases >= ENOUGH && !self.counts.contains_key(&kind) {
                 self.difference("never came", kind, "none");
             }
         }
         println!(
-            "cuts: {cases} cases, {} best cuts, {} edges with expectations, {} differences",
-            self.cuts, self.edges, self.differences
+            "cuts: {cases} cases, {} best cuts, {} edges with expectations, {} one-word cuts, {} differences",
+            self.cuts, self.edges, self.one_word_cuts, self.differences
         );
     }
 }
@@ -370,6 +504,7 @@ fn main() {
         counts: BTreeMap::new(),
         edges: 0,
         cuts: 0,
+        one_word_cuts: 0,
         differences: 0,
     };
     for case in 1..=cases {

@@ -1,11 +1,12 @@
 //! Scores of every kind, how much is lent, and how what is lent is damaged.
 
+use crate::cases::{shorten, spoil};
 use crate::random::Random;
 use crate::refusals::{Lent, Rooms};
 
 /// A score of one kind: zeros of both signs, minus infinity, huge, the least there are, few values so that cuts tie, and
 /// such as training has.
-fn score(random: &mut Random, kind: usize, piece: &str) -> f64 {
+pub fn score(random: &mut Random, kind: usize, piece: &str) -> f64 {
     let unit = (random.bits() >> 11) as f64 / (1u64 << 53) as f64;
     match kind {
         0 => -12.0 * unit,
@@ -52,29 +53,7 @@ pub fn rooms(random: &mut Random, lent: &Lent) -> Rooms {
     }
 }
 
-/// A number near this one, or far from it.
-fn other(random: &mut Random, number: u32) -> u32 {
-    let far = random.bits() as u32;
-    random.pick(&[
-        number.wrapping_add(1),
-        number.wrapping_sub(1),
-        number ^ 1,
-        0,
-        1,
-        u32::MAX,
-        far,
-    ])
-}
-
-/// Puts another number into a slot, if there is one.
-fn spoil(random: &mut Random, slots: &mut [u32]) {
-    if !slots.is_empty() {
-        let slot = random.below(slots.len());
-        slots[slot] = other(random, slots[slot]);
-    }
-}
-
-fn spoil_score(random: &mut Random, scores: &mut [f64]) {
+pub fn spoil_score(random: &mut Random, scores: &mut [f64]) {
     if !scores.is_empty() {
         let id = random.below(scores.len());
         let any = f64::from_bits(random.bits());
@@ -83,11 +62,7 @@ fn spoil_score(random: &mut Random, scores: &mut [f64]) {
     }
 }
 
-fn shorten(random: &mut Random, slots: &mut usize) {
-    *slots -= random.pick(&[1, 1, 2, 20, usize::MAX]).min(*slots);
-}
-
-fn cut<T>(random: &mut Random, slots: &mut Vec<T>) {
+pub fn cut<T>(random: &mut Random, slots: &mut Vec<T>) {
     let mut long = slots.len();
     shorten(random, &mut long);
     slots.truncate(long);

@@ -225,7 +225,7 @@ pub fn shorten(random: &mut Random, slots: &mut usize) {
 }
 
 /// Gives a word or a piece the span of another, or one more of them the empty span.
-fn repeat(random: &mut Random, numbers: &mut Vec<u32>) {
+pub fn repeat(random: &mut Random, numbers: &mut Vec<u32>) {
     numbers.truncate(numbers.len() / 2 * 2);
     let many = numbers.len() / 2;
     if many > 0 && random.below(3) > 0 {

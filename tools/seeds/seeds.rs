@@ -1,7 +1,7 @@
 //! Random word lists and settings, how much is lent, and how what is lent is damaged.
 
 use crate::call::{Lent, Slots};
-use crate::cases::{other, script, shorten, spans, spoil, spoil_byte, word};
+use crate::cases::{other, repeat, script, shorten, spans, spoil, spoil_byte, word};
 use crate::refusals as plain;
 use crate::random::Random;
 use std::collections::BTreeSet;
@@ -122,16 +122,10 @@ pub fn slots(random: &mut Random, rooms: &Rooms) -> Slots {
 }
 
 /// Gives a word the span of another, or one more word the empty span.
-fn repeat(random: &mut Random, lent: &mut Lent) {
-    lent.words.truncate(lent.words.len() / 2 * 2);
-    let many = lent.words.len() / 2;
-    if many > 0 && random.below(3) > 0 {
-        let (from, to) = (random.below(many), random.below(many));
-        lent.words.copy_within(2 * from..2 * from + 2, 2 * to);
-    } else {
-        lent.words.extend([0, 0]);
-        lent.frequencies.insert(many.min(lent.frequencies.len()), 1);
-    }
+fn repeat_word(random: &mut Random, lent: &mut Lent) {
+    repeat(random, &mut lent.words);
+    let many = lent.frequencies.len().max(lent.words.len() / 2);
+    lent.frequencies.resize(many, 1);
 }
 
 /// A word of 255 bytes, or of one or two more, and room for it.
@@ -207,7 +201,7 @@ pub fn damage(random: &mut Random, lent: &mut Lent, rooms: &mut Rooms) {
             }
         }
         11 | 12 => spoil_byte(random, &mut lent.text),
-        13 | 14 => repeat(random, lent),
+        13 | 14 => repeat_word(random, lent),
         15 => lengthen(random, lent, rooms),
         16 | 17 => weigh(random, lent),
         18 => {

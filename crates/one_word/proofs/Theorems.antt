@@ -130,16 +130,20 @@ module _ (x : Lent) (w : Work) (path : List ℕ) where
   finite-cut : {path' : List ℕ} {score : Float} {count : ℕ} → Given x w path path' score count → FiniteCut (latticeOf x) (length (chars x))
   finite-cut g = record { cut = g .found .cut; is-cut = theorem x (g .in-order) .is-cut (g .found .cut) (g .found .is-best); is-finite = g .found .is-best .is-finite }
 
--- ---- "a best cut is given exactly when some cut's left-to-right rounded sum is finite; its sum is the greatest there is, and its
--- pieces spell the word"
+-- ---- the second part of demand 3 in one statement: "a best cut is given exactly when some cut's left-to-right rounded sum is
+-- finite; its sum is the greatest there is, and its pieces spell the word"
 pub record IsBest (x : Lent) (path' : List ℕ) (score : Float) (count : ℕ) : Type 0 where
   pub cut : List ℕ
   pub is-cut : IsCut (latticeOf x) (length (chars x)) cut
   pub sum-is : score ≡ sum f64s (latticeOf x) cut
   pub greatest : Greatest f64s (latticeOf x) (length (chars x)) score
+  pub wins : BestCut (latticeOf x) (length (chars x)) cut
   pub spells : spelt x (take count path') ≡ chars x
 
+-- `theorem` says of the cut that wins: "the earliest start at each position wins ties, and what precedes is chosen so for the
+-- shorter word"; and that no second cut does
 pub record Answered (x : Lent) (path' : List ℕ) (r : Cut) : Type 0 where
+  pub theorem : BestCutTheorem (latticeOf x) (length (chars x))
   pub exactly : FiniteCut (latticeOf x) (length (chars x)) ↔ ((score : Float) × (count : ℕ) × (r ≡ Score score count))
   pub is-best : (score : Float) (count : ℕ) → r ≡ Score score count → IsBest x path' score count
 
@@ -152,6 +156,7 @@ best-of {x} {path' = path'} g =
       is-cut = t .is-cut (f .cut) (f .is-best);
       sum-is = f .score-is;
       greatest = subst (Greatest f64s (latticeOf x) (length (chars x))) (sym (f .score-is)) (t .greatest (f .cut) (f .is-best));
+      wins = f .is-best;
       spells = found-spells (x .setting) (listed-distinct (x .spellings) (x .pieces) (g .in-order .pieces-good) (g .in-order .once)) (chars x) (x .scores) f;
     }
 
@@ -159,6 +164,7 @@ best-of {x} {path' = path'} g =
 pub answered : (x : Lent) (w : Work) (path path' : List ℕ) → Ready x w path → (r : Cut) → Answers x w path path' r → Answered x path' r
 answered x w path path' r (Score score count) g =
     record {
+      theorem = theorem x (r .in-order);
       exactly = (λ c. (score, count, refl), λ _. finite-cut x w path g);
       is-best = λ s c e.
           let a : score ≡ s = cc in
@@ -167,6 +173,7 @@ answered x w path path' r (Score score count) g =
     }
 answered x w path path' r (Refused refusal) (y, kept) =
     record {
+      theorem = theorem x (r .in-order);
       exactly = (λ c. absurd (never x w path r c y), λ (s, c, e). absurd (apart e));
       is-best = λ s c e. absurd (apart e);
     }

@@ -24,6 +24,15 @@ impl Trie {
     pub fn build(pieces: &[&str]) -> Trie {
         Trie(PieceTrie::build(pieces))
     }
+
+    /// One word's best cut, straight from the builder: its score and its path, or none.
+    pub fn cut(&self, setting: usize, word: &str, scores: &[f64]) -> Option<(f64, Vec<u32>)> {
+        let mut builder = LatticeBuilder::default();
+        builder.build(word, setting, &self.0);
+        let mut path = Vec::new();
+        let score = Algorithms::default().viterbi(builder.view(), scores, &mut path);
+        (score != f64::NEG_INFINITY).then_some((score, path))
+    }
 }
 
 /// Every word's lattice.

@@ -1,0 +1,4 @@
+pub mod Turns
+pub mod Scored
+pub mod Ends
+pub mod Theorems

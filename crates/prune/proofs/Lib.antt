@@ -1,0 +1,15 @@
+pub mod Walks
+pub mod Filled
+pub mod Ranks
+pub mod Marked
+pub mod Renewed
+pub mod Closing
+pub mod Pairs
+pub mod Pruned
+pub mod Sorted
+pub mod Lives
+pub mod Settled
+pub mod Remaps
+pub mod Listed
+pub mod Bits
+pub mod Theorems
