@@ -109,7 +109,11 @@ pub extern "C" fn bench_seed(
         scores,
         table,
     ) {
-        Started::Seeded { words, pieces, required } => seeded(told, words, pieces, required),
+        Started::Seeded {
+            words,
+            pieces,
+            required,
+        } => seeded(told, words, pieces, required),
         Started::Refused(r) => refused(told, r),
     }
 }

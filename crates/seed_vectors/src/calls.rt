@@ -63,7 +63,11 @@ fn seeded(pieces: usize, required: usize) -> Answer {
 // What a start is in numbers.
 fn started(s: Started) -> Answer {
     match s {
-        Started::Seeded { words, pieces, required } => seeded(pieces, required),
+        Started::Seeded {
+            words,
+            pieces,
+            required,
+        } => seeded(pieces, required),
         Started::Refused(r) => refused(r),
     }
 }

@@ -116,12 +116,7 @@ fn add(
     match append(line, from, bytes, text, used.bytes) {
         Put::NoRoom => Added::Bad,
         Put::Upto(end) => {
-            match push(
-                spans,
-                used.spans,
-                low(used.bytes as u64),
-                low(bytes as u64),
-            ) {
+            match push(spans, used.spans, low(used.bytes as u64), low(bytes as u64)) {
                 Put::NoRoom => Added::Bad,
                 Put::Upto(next) => Added::Upto(Used {
                     bytes: end,

@@ -132,7 +132,15 @@ fn put_answer(out: &mut [u8], kind: u8, answer: Answer) -> usize {
 pub fn tell(answer: Answer, text: &[u8], pieces: &[u32], tallies: &[u64], scores: &[f64]) {
     let mut out = [0u8; 65536];
     let first = put_answer(&mut out, ANSWER, answer);
-    let last = put_pieces(&mut out, first, text, pieces, tallies, scores, answer.pieces);
+    let last = put_pieces(
+        &mut out,
+        first,
+        text,
+        pieces,
+        tallies,
+        scores,
+        answer.pieces,
+    );
     send(&out, last);
 }
 

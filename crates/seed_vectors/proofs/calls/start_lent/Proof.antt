@@ -11,13 +11,11 @@ least-requires c κs = search needs
 triples-requires : tie.Need-triples-requires
 triples-requires c κs = search needs
 
-
 pairs-requires : tie.Need-pairs-requires
 pairs-requires c κs = search needs
 
 least-requires-2 : tie.Need-least-requires-2
 least-requires-2 c κs = search needs
-
 
 least-requires-3 : tie.Need-least-requires-3
 least-requires-3 c κs = search needs
