@@ -40,15 +40,19 @@ const THAI: [&str; 24] = [
 ];
 
 const CJK: [&str; 24] = [
-    "风扇", "响", "热", "冷", "电", "源", "主板", "屏幕", "开", "关", "机", "不", "能", "启动", "慢", "声音", "大", "了", "后", "自",
-    "动", "灭", "修", "好",
+    "风扇", "响", "热", "冷", "电", "源", "主板", "屏幕", "开", "关", "机", "不", "能", "启动",
+    "慢", "声音", "大", "了", "后", "自", "动", "灭", "修", "好",
 ];
 
 /// A script's syllables, and how many more than two a word has, at most, counted from 1.
 pub type Script = ([&'static str; 24], usize);
 
 /// Latin words are short, Thai ones long, as notes have them.
-pub const SCRIPTS: [(&str, Script); 3] = [("Latin", (LATIN, 4)), ("Thai", (THAI, 8)), ("CJK", (CJK, 8))];
+pub const SCRIPTS: [(&str, Script); 3] = [
+    ("Latin", (LATIN, 4)),
+    ("Thai", (THAI, 8)),
+    ("CJK", (CJK, 8)),
+];
 
 /// Distinct words of syllables, the early ones of a script more often, half of them Latin and half Thai.
 pub fn words(random: &mut Random) -> Vec<String> {

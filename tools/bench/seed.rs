@@ -45,10 +45,23 @@ fn bounded(words: impl Iterator<Item = String>) -> Vec<String> {
 
 /// a, aa, aaa, .. up to 255 letters, and words of one and two letters.
 fn one_letter() -> Vec<String> {
-    let letters: Vec<char> = ('a'..='z').chain('α'..='ω').chain('а'..='я').chain('一'..='丯').collect();
-    let pairs = || letters.iter().flat_map(|a| letters.iter().map(move |b| format!("{a}{b}")));
+    let letters: Vec<char> = ('a'..='z')
+        .chain('α'..='ω')
+        .chain('а'..='я')
+        .chain('一'..='丯')
+        .collect();
+    let pairs = || {
+        letters
+            .iter()
+            .flat_map(|a| letters.iter().map(move |b| format!("{a}{b}")))
+    };
     let ones = letters.iter().map(char::to_string);
-    bounded((1..=255).map(|long| "a".repeat(long)).chain(ones).chain(pairs()))
+    bounded(
+        (1..=255)
+            .map(|long| "a".repeat(long))
+            .chain(ones)
+            .chain(pairs()),
+    )
 }
 
 /// Every prefix of words of 127 letters that differ in their first eight alone.
@@ -115,7 +128,11 @@ fn timed<T>(times: &mut Vec<f64>, call: impl FnOnce() -> T) -> T {
 /// One line: both sides over one list.
 fn measure(name: &str, words: &[String], length: usize, rounds: usize) -> f64 {
     let lent = lent(words, length);
-    let counted: Vec<(&str, u64)> = words.iter().map(String::as_str).zip(lent.frequencies.iter().copied()).collect();
+    let counted: Vec<(&str, u64)> = words
+        .iter()
+        .map(String::as_str)
+        .zip(lent.frequencies.iter().copied())
+        .collect();
     let whole = original::Trainer::new(VOCAB, Some(usize::MAX), length, MINIMUM, &[]);
     let uncut = whole.seed(&counted).0.len();
     let trainer = original::Trainer::new(VOCAB, None, length, MINIMUM, &[]);
@@ -125,7 +142,11 @@ fn measure(name: &str, words: &[String], length: usize, rounds: usize) -> f64 {
         let (pieces, scores, required) = timed(&mut theirs, || trainer.seed(black_box(&counted)));
         let said = timed(&mut ours, || call::seed(black_box(&lent), &mut slots));
         if round == 0 {
-            let wanted = call::Told { words: words.len(), pieces: pieces.len(), required };
+            let wanted = call::Told {
+                words: words.len(),
+                pieces: pieces.len(),
+                required,
+            };
             assert_eq!(said, Ok(wanted), "how many");
             assert!(
                 call::pieces(&lent, &slots, pieces.len()) == call::originals(&pieces, &scores),
@@ -172,7 +193,10 @@ fn main() {
     for (name, script) in SCRIPTS {
         let words = bounded(words_of(&mut random, &[script]).into_iter());
         for (part, of) in [("quarter", 4), ("half", 2), ("all", 1)] {
-            lists.push((format!("{name}, {part}"), words[..words.len() / of].to_vec()));
+            lists.push((
+                format!("{name}, {part}"),
+                words[..words.len() / of].to_vec(),
+            ));
         }
     }
     lists.push(("one letter".to_string(), one_letter()));
@@ -183,7 +207,10 @@ fn main() {
     );
     let mut worst: f64 = 0.0;
     for length in LENGTHS {
-        for (name, words) in lists.iter().filter(|(name, _)| !quick || name.ends_with("quarter")) {
+        for (name, words) in lists
+            .iter()
+            .filter(|(name, _)| !quick || name.ends_with("quarter"))
+        {
             worst = worst.max(measure(name, words, length, rounds));
         }
     }

@@ -62,7 +62,10 @@ const KINDS: [(u32, &str); 26] = [
     (0, "a word not UTF-8 left out"),
 ];
 /// These take long, so they are rare.
-const RARE: [(u32, &str); 2] = [(7, "more than 16,384 words"), (7, "a text over 1,048,576 bytes")];
+const RARE: [(u32, &str); 2] = [
+    (7, "more than 16,384 words"),
+    (7, "a text over 1,048,576 bytes"),
+];
 const ENOUGH_FOR_RARE: usize = 20_000;
 
 struct Comparison {
@@ -75,10 +78,18 @@ struct Comparison {
 }
 
 impl Comparison {
-    fn difference(&mut self, what: &str, wanted: impl std::fmt::Debug, found: impl std::fmt::Debug) {
+    fn difference(
+        &mut self,
+        what: &str,
+        wanted: impl std::fmt::Debug,
+        found: impl std::fmt::Debug,
+    ) {
         self.differences += 1;
         if self.differences <= SHOWN {
-            println!("case {}: {what}\n  wanted {wanted:?}\n  found  {found:?}", self.case);
+            println!(
+                "case {}: {what}\n  wanted {wanted:?}\n  found  {found:?}",
+                self.case
+            );
         }
     }
 
@@ -87,22 +98,42 @@ impl Comparison {
     }
 
     /// The original's list against what the slots hold.
-    fn accepted(&mut self, good: [&'static str; 2], lent: &Lent, slots: &call::Slots, words: &[(refusals::Word, &str)], told: Told) {
+    fn accepted(
+        &mut self,
+        good: [&'static str; 2],
+        lent: &Lent,
+        slots: &call::Slots,
+        words: &[(refusals::Word, &str)],
+        told: Told,
+    ) {
         let specials = lent.specials.chunks_exact(2);
-        let special = |span: &[u32]| String::from_utf8(call::part(&lent.texts, span[0], span[1])?.to_vec()).ok();
+        let special = |span: &[u32]| {
+            String::from_utf8(call::part(&lent.texts, span[0], span[1])?.to_vec()).ok()
+        };
         let specials: Vec<String> = specials.filter_map(special).collect();
-        let trainer = original::Trainer::new(lent.vocab, lent.seed, lent.length, lent.minimum, &specials);
+        let trainer =
+            original::Trainer::new(lent.vocab, lent.seed, lent.length, lent.minimum, &specials);
         let counted: Vec<(&str, u64)> = words.iter().map(|(word, text)| (*text, word.2)).collect();
         let (pieces, scores, required) = trainer.seed(&counted);
-        let wants = Told { words: words.len(), pieces: pieces.len(), required };
+        let wants = Told {
+            words: words.len(),
+            pieces: pieces.len(),
+            required,
+        };
         if wants != told {
             return self.difference("how many", wants, told);
         }
-        let (wants, found) = (call::originals(&pieces, &scores), call::pieces(lent, slots, told.pieces));
+        let (wants, found) = (
+            call::originals(&pieces, &scores),
+            call::pieces(lent, slots, told.pieces),
+        );
         if wants != found {
             self.difference("the list", wants, found);
         }
-        let kept: Vec<u32> = words.iter().flat_map(|(word, _)| [word.0, word.1]).collect();
+        let kept: Vec<u32> = words
+            .iter()
+            .flat_map(|(word, _)| [word.0, word.1])
+            .collect();
         let counts: Vec<u64> = words.iter().map(|(word, _)| word.2).collect();
         if slots.kept[..2 * told.words] != kept || slots.counts[..told.words] != counts {
             self.difference("the words", (kept, counts), (&slots.kept, &slots.counts));
@@ -138,9 +169,13 @@ impl Comparison {
     /// One piece more than there are slots for.
     fn one_over(&mut self, lent: &Lent, rooms: &Rooms) {
         let mut slots = seeds::slots(&mut self.random, rooms);
-        let Ok(words) = refusals::accepted(lent, &slots) else { return };
+        let Ok(words) = refusals::accepted(lent, &slots) else {
+            return;
+        };
         let counted: Vec<(&str, u64)> = words.iter().map(|(word, text)| (*text, word.2)).collect();
-        let Some(one_less) = refusals::uncut(lent, &counted).checked_sub(1) else { return };
+        let Some(one_less) = refusals::uncut(lent, &counted).checked_sub(1) else {
+            return;
+        };
         match self.random.below(3) {
             0 => slots.pieces.truncate(2 * one_less + self.random.below(2)),
             1 => slots.tallies.truncate(one_less),
@@ -161,7 +196,11 @@ impl Comparison {
         for _ in 0..self.random.pick(&[1, 1, 1, 2, 3]) {
             seeds::damage(&mut self.random, &mut lent, &mut rooms);
         }
-        self.ask(["accepted, damaged, whole", "accepted, damaged, cut"], &lent, &rooms);
+        self.ask(
+            ["accepted, damaged, whole", "accepted, damaged, cut"],
+            &lent,
+            &rooms,
+        );
     }
 
     fn report(&mut self, cases: usize) {

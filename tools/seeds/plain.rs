@@ -67,7 +67,11 @@ fn bounds(lent: &Lent, slots: &Slots) -> Result<(), No> {
     if lent.text.len() > 1_048_576 {
         return no(7, 0, "a text over 1,048,576 bytes");
     }
-    let by_word = [slots.kept.len() / 2, slots.counts.len(), slots.table.len() / 2];
+    let by_word = [
+        slots.kept.len() / 2,
+        slots.counts.len(),
+        slots.table.len() / 2,
+    ];
     if by_word.iter().any(|slots| *slots < words.len()) {
         return no(7, 0, "a slot a word too few");
     }
@@ -114,12 +118,16 @@ pub fn uncut(lent: &Lent, words: &[(&str, u64)]) -> usize {
         let characters: Vec<char> = word.chars().collect();
         for start in 0..characters.len() {
             for long in 1..=lent.length.max(1).min(characters.len() - start) {
-                *counts.entry(characters[start..start + long].to_vec()).or_default() += frequency;
+                *counts
+                    .entry(characters[start..start + long].to_vec())
+                    .or_default() += frequency;
             }
         }
     }
     let counts = counts.iter();
-    counts.filter(|(piece, count)| piece.len() == 1 || **count >= lent.minimum).count()
+    counts
+        .filter(|(piece, count)| piece.len() == 1 || **count >= lent.minimum)
+        .count()
 }
 
 /// "the piece slots (the shortest per-piece slice)"
@@ -151,7 +159,15 @@ pub fn accepted<'a>(lent: &'a Lent, slots: &Slots) -> Result<Vec<(Word, &'a str)
         return no(5, 0, "W over 2^48");
     }
     if texts.is_empty() {
-        return no(6, 0, if words.is_empty() { "no word" } else { "none UTF-8" });
+        return no(
+            6,
+            0,
+            if words.is_empty() {
+                "no word"
+            } else {
+                "none UTF-8"
+            },
+        );
     }
     let counted: Vec<(&str, u64)> = texts.iter().map(|(word, text)| (*text, word.2)).collect();
     if uncut(lent, &counted) > piece_slots(slots) {

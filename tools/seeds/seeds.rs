@@ -2,18 +2,31 @@
 
 use crate::call::{Lent, Slots};
 use crate::cases::{other, repeat, script, shorten, spans, spoil, spoil_byte, word};
-use crate::refusals as plain;
 use crate::random::Random;
+use crate::refusals as plain;
 use std::collections::BTreeSet;
 
 /// Distinct words over few letters, so that their strings repeat; once in ten, one that is not UTF-8 among them.
 fn words(random: &mut Random) -> Vec<Vec<u8>> {
-    let letters: Vec<char> = (0..1 + random.below(2)).flat_map(|_| script(random)).collect();
+    let letters: Vec<char> = (0..1 + random.below(2))
+        .flat_map(|_| script(random))
+        .collect();
     let many = random.pick(&[1, 1, 2, 4, 8, 12]);
-    let words: BTreeSet<Vec<u8>> = (0..many).map(|_| word(random, &letters).into_bytes()).collect();
+    let words: BTreeSet<Vec<u8>> = (0..many)
+        .map(|_| word(random, &letters).into_bytes())
+        .collect();
     let mut words: Vec<Vec<u8>> = words.into_iter().collect();
     if random.once_in(10) {
-        words.push(random.pick(&[&b"\xed\xa0\x80"[..], b"a\xff", b"\xc0\x80", b"\xf4\x90\x80\x80"]).to_vec());
+        words.push(
+            random
+                .pick(&[
+                    &b"\xed\xa0\x80"[..],
+                    b"a\xff",
+                    b"\xc0\x80",
+                    b"\xf4\x90\x80\x80",
+                ])
+                .to_vec(),
+        );
     }
     random.shuffle(&mut words);
     words
@@ -40,7 +53,16 @@ pub fn lend(random: &mut Random) -> Lent {
     }
     Lent {
         vocab: random.pick(&[0, 1, 5, 20, 60, 300, 8_000, 65_536]),
-        seed: random.pick(&[None, None, None, Some(0), Some(3), Some(10), Some(40), Some(1_048_576)]),
+        seed: random.pick(&[
+            None,
+            None,
+            None,
+            Some(0),
+            Some(3),
+            Some(10),
+            Some(40),
+            Some(1_048_576),
+        ]),
         length: random.below(33),
         minimum: random.pick(&[0, 1, 2, 2, 3, 200, 1 << 40, u64::MAX]),
         em: random.pick(&[0, 2, 100]),
@@ -80,7 +102,13 @@ pub fn rooms(random: &mut Random, lent: &Lent) -> Rooms {
     let spelt: Vec<(&str, u64)> = words.iter().filter_map(spelt).collect();
     let pieces = plain::uncut(lent, &spelt);
     let exactly = random.once_in(2);
-    let mut more = |used: usize| used + if exactly { 0 } else { random.pick(&[0, 1, 2, 9]) };
+    let mut more = |used: usize| {
+        used + if exactly {
+            0
+        } else {
+            random.pick(&[0, 1, 2, 9])
+        }
+    };
     Rooms {
         kept: more(2 * words.len()),
         counts: more(words.len()),
@@ -105,7 +133,10 @@ pub fn slots(random: &mut Random, rooms: &Rooms) -> Slots {
     let (kept, chars, places) = (small(rooms.kept), small(rooms.chars), small(rooms.places));
     let (order, work) = (small(rooms.order), small(rooms.work));
     let (pieces, table) = (small(rooms.pieces), small(rooms.table));
-    let scores = numbers(rooms.scores).into_iter().map(f64::from_bits).collect();
+    let scores = numbers(rooms.scores)
+        .into_iter()
+        .map(f64::from_bits)
+        .collect();
     Slots {
         kept,
         counts: numbers(rooms.counts),
@@ -145,7 +176,8 @@ fn weigh(random: &mut Random, lent: &mut Lent) {
         let word = random.below(lent.frequencies.len());
         let characters = 1 + random.below(40) as u64;
         let full = (1 << 48) / characters;
-        lent.frequencies[word] = random.pick(&[full, full + 1, 1 << 48, (1 << 48) + 1, u64::MAX, full - 1]);
+        lent.frequencies[word] =
+            random.pick(&[full, full + 1, 1 << 48, (1 << 48) + 1, u64::MAX, full - 1]);
     }
 }
 
@@ -156,7 +188,8 @@ fn spoil_special(random: &mut Random, lent: &mut Lent) {
         2 => lent.specials.resize(2 * random.pick(&[256, 257, 300]), 0),
         3 => {
             lent.specials.truncate(lent.specials.len() / 2 * 2);
-            lent.specials.extend([lent.texts.len() as u32, random.pick(&[255, 256])]);
+            lent.specials
+                .extend([lent.texts.len() as u32, random.pick(&[255, 256])]);
             lent.texts.resize(lent.texts.len() + 256, b'a');
         }
         _ => lent.texts.truncate(random.below(lent.texts.len() + 1)),
@@ -177,7 +210,13 @@ fn exceed(random: &mut Random, lent: &mut Lent, rooms: &mut Rooms) {
         2 => lent.text.resize(1_048_577, b'a'),
         _ => lent.text.resize(1_048_576, b'a'),
     }
-    *rooms = self::rooms(random, &Lent { length: 0, ..lent.clone() });
+    *rooms = self::rooms(
+        random,
+        &Lent {
+            length: 0,
+            ..lent.clone()
+        },
+    );
 }
 
 /// Damages what is lent. It may still be good, and it may be bad in another way than was meant.
@@ -207,14 +246,22 @@ pub fn damage(random: &mut Random, lent: &mut Lent, rooms: &mut Rooms) {
         18 => {
             lent.words.truncate(random.pick(&[0, 1, 2]));
         }
-        19 => lent.frequencies.truncate(random.below(lent.frequencies.len() + 1)),
+        19 => lent
+            .frequencies
+            .truncate(random.below(lent.frequencies.len() + 1)),
         20 => {
             let by_word = [&mut rooms.kept, &mut rooms.counts, &mut rooms.table];
             let slot = random.below(by_word.len());
             shorten(random, by_word.into_iter().nth(slot).unwrap());
         }
         21 | 22 => {
-            let by_position = [&mut rooms.chars, &mut rooms.places, &mut rooms.order, &mut rooms.work, &mut rooms.ranks];
+            let by_position = [
+                &mut rooms.chars,
+                &mut rooms.places,
+                &mut rooms.order,
+                &mut rooms.work,
+                &mut rooms.ranks,
+            ];
             let slot = random.below(by_position.len());
             shorten(random, by_position.into_iter().nth(slot).unwrap());
         }
