@@ -175,7 +175,7 @@ def drawn(rng, index):
     longest = rng.choice((1, 3, 6, 8, 10, 40 if index % 40 == 0 else 7))
     words = {"".join(rng.choice(alphabet) for _ in range(rng.randint(0, longest))) for _ in range(rng.randint(1, 8))}
     most = rng.choice((1, 2, 3, 100, 2**40))
-    lent = [(word.encode(), rng.randint(1, most)) for word in sorted(words, key=lambda word: rng.random())]
+    lent = [(word.encode(), rng.randint(1, most)) for word in sorted(sorted(words), key=lambda word: rng.random())]
     if rng.random() < 0.1:
         lent.insert(rng.randint(0, len(lent)), (b"\xed\xa0\x80", rng.choice((1, 2**64 - 1))))
     case = Case(lent, rng.choice(LENGTHS), rng.choice(MINIMUMS))
