@@ -8,12 +8,17 @@
     python3 tools/rust.py cuts [--library FILE] [--cases N] [--seed N]
                                                          cuts, the one-word cut, expectations and refusals
                                                          against the Rust original
+    python3 tools/rust.py seeds [--library FILE] [--cases N] [--seed N]
+                                                         seed lists and refusals against the Rust original; it needs
+                                                         tools/native-staticlib bench_seed too
     python3 tools/rust.py bench-math [--library FILE]    speed against libm
     python3 tools/rust.py bench-utf8 [--library FILE]    speed against std::str::from_utf8
     python3 tools/rust.py bench-lattices [--library FILE]
                                                          speed against the Rust original
     python3 tools/rust.py bench-cuts [--library FILE]    the same of cuts, the one-word cut and expectations; it
                                                          needs tools/native-staticlib bench_cuts too
+    python3 tools/rust.py bench-seed [--library FILE] [--rounds N]
+                                                         the same of seed lists; it needs bench_seed as seeds does
     python3 tools/rust.py filter                         the reference as a filter
 
 The library is the static library with the proved code, which
@@ -34,19 +39,21 @@ RUSTC = ["rustc", "--edition", "2021", "-C", "opt-level=3", "-D", "warnings"]
 
 # Tool: its programs, each a source and the kind of what it links, which says
 # what the kind before it says and more: nothing, the proved code by way of
-# bindings/rust, the Rust original too, the cores of cuts too. A source in a
-# folder tests/ is a program of tests.
-ALONE, PROVED, ORIGINAL, CORES = range(4)
+# bindings/rust, the Rust original too. More libraries of proved code follow by
+# name. A source in a folder tests/ is a program of tests.
+ALONE, PROVED, ORIGINAL = range(3)
 BINDINGS = [f"bindings/rust/{name}.rs" for name in ("tests/lattices", "tests/cuts", "examples/aba")]
 TOOLS = {
     "bindings": (BINDINGS, PROVED),
     "compare": (["tools/math/compare.rs"], PROVED),
     "lattices": (["tools/lattices/compare.rs"], ORIGINAL),
     "cuts": (["tools/cuts/compare.rs"], ORIGINAL),
+    "seeds": (["tools/seeds/compare.rs"], ORIGINAL, "bench_seed"),
     "bench-math": (["tools/bench/math.rs"], PROVED),
     "bench-utf8": (["tools/bench/utf8.rs"], PROVED),
     "bench-lattices": (["tools/bench/lattices.rs"], ORIGINAL),
-    "bench-cuts": (["tools/bench/cuts.rs"], CORES),
+    "bench-cuts": (["tools/bench/cuts.rs"], ORIGINAL, "bench_cuts"),
+    "bench-seed": (["tools/bench/seed.rs"], ORIGINAL, "bench_seed"),
     "filter": (["tools/math/filter.rs"], ALONE),
 }
 
@@ -81,8 +88,8 @@ def rustc(out, source, *more):
     return out
 
 
-def linked(kind, named):
-    """The arguments that link what a tool of this kind needs."""
+def linked(kind, named, more):
+    """The arguments that link what a tool of this kind needs, and more libraries by name."""
     arguments = []
     if kind >= PROVED:
         archive = library(named)
@@ -91,16 +98,14 @@ def linked(kind, named):
         arguments += ["--extern", f"causeylark={bindings}", "-C", f"link-arg={archive}"]
     if kind >= ORIGINAL:
         arguments += originals()
-    if kind >= CORES:
-        arguments += ["-C", f"link-arg={library(None, 'bench_cuts')}"]
-    return arguments
+    return arguments + [word for name in more for word in ("-C", f"link-arg={library(None, name)}")]
 
 
 def compile_tool(tool, named):
     """Compile one tool. Its program stands at target/tools/TOOL; where it has
     more than one, at target/tools/TOOL-NAME."""
-    sources, kind = TOOLS[tool]
-    arguments = linked(kind, named)
+    sources, kind, *more = TOOLS[tool]
+    arguments = linked(kind, named, more)
     programs = []
     for source in map(Path, sources):
         program = OUT / (tool if len(sources) == 1 else f"{tool}-{source.stem}")

@@ -39,12 +39,32 @@ const THAI: [&str; 24] = [
     "ได้",
 ];
 
-/// Distinct words of syllables, the early ones of a script more often: Latin ones short, Thai ones long, as notes have them.
+const CJK: [&str; 24] = [
+    "风扇", "响", "热", "冷", "电", "源", "主板", "屏幕", "开", "关", "机", "不", "能", "启动",
+    "慢", "声音", "大", "了", "后", "自", "动", "灭", "修", "好",
+];
+
+/// A script's syllables, and how many more than two a word has, at most, counted from 1.
+pub type Script = ([&'static str; 24], usize);
+
+/// Latin words are short, Thai ones long, as notes have them.
+pub const SCRIPTS: [(&str, Script); 3] = [
+    ("Latin", (LATIN, 4)),
+    ("Thai", (THAI, 8)),
+    ("CJK", (CJK, 8)),
+];
+
+/// Distinct words of syllables, the early ones of a script more often, half of them Latin and half Thai.
 pub fn words(random: &mut Random) -> Vec<String> {
+    words_of(random, &[SCRIPTS[0].1, SCRIPTS[1].1])
+}
+
+/// The same of these scripts.
+pub fn words_of(random: &mut Random, scripts: &[Script]) -> Vec<String> {
     let mut below = |count: usize| (random.bits() % count as u64) as usize;
     let (mut words, mut seen) = (Vec::new(), BTreeSet::new());
     while words.len() < WORDS {
-        let (syllables, most) = if below(2) == 0 { (LATIN, 4) } else { (THAI, 8) };
+        let (syllables, most) = scripts[below(scripts.len())];
         let count = 2 + below(most);
         let word: String = (0..count)
             .map(|_| syllables[below(24).min(below(24))])

@@ -29,7 +29,7 @@ impl Random {
         from[self.below(from.len())]
     }
 
-    fn shuffle<T>(&mut self, items: &mut [T]) {
+    pub fn shuffle<T>(&mut self, items: &mut [T]) {
         for last in (1..items.len()).rev() {
             items.swap(last, self.below(last + 1));
         }
@@ -61,13 +61,13 @@ impl Case {
 }
 
 /// A script's first letters.
-fn script(random: &mut Random) -> Vec<char> {
+pub fn script(random: &mut Random) -> Vec<char> {
     let many = 1 + random.below(8);
     random.pick(&SCRIPTS).chars().take(many).collect()
 }
 
 /// At most 255 bytes.
-fn word(random: &mut Random, letters: &[char]) -> String {
+pub fn word(random: &mut Random, letters: &[char]) -> String {
     let most = random.pick(&[0, 1, 2, 3, 8, 8, 20, 40, 255]);
     let mut word = String::new();
     for _ in 0..random.below(most + 1) {
@@ -127,13 +127,13 @@ pub fn remap(random: &mut Random, pieces: usize) -> (Vec<u32>, usize) {
 }
 
 /// The strings as spans of a text: in any order, at times with bytes between that belong to none, or sharing bytes.
-pub fn spans(random: &mut Random, strings: &[String]) -> (Vec<u8>, Vec<u32>) {
+pub fn spans(random: &mut Random, strings: &[impl AsRef<[u8]>]) -> (Vec<u8>, Vec<u32>) {
     let (apart, shared) = (random.once_in(2), random.once_in(2));
     let mut order: Vec<usize> = (0..strings.len()).collect();
     random.shuffle(&mut order);
     let (mut text, mut numbers) = (Vec::new(), vec![0; 2 * strings.len()]);
     for index in order {
-        let bytes = strings[index].as_bytes();
+        let bytes = strings[index].as_ref();
         if apart {
             text.extend((0..random.below(3)).map(|_| random.bits() as u8));
         }
@@ -192,7 +192,7 @@ pub fn sizes(random: &mut Random, lent: &Lent, used: &Cache, nodes: usize, piece
 }
 
 /// A number near this one, or far from it.
-fn other(random: &mut Random, number: u32) -> u32 {
+pub fn other(random: &mut Random, number: u32) -> u32 {
     let far = random.bits() as u32;
     random.pick(&[
         number.wrapping_add(1),

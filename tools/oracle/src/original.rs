@@ -1,5 +1,5 @@
-//! The Rust of the source as a library: its trie, its builder, its cache and its cuts, for tools that compare with them or
-//! measure them in one program. README.md says what is compiled.
+//! The Rust of the source as a library: its trie, its builder, its cache, its cuts and its seed list, for tools that compare
+//! with them or measure them in one program. README.md says what is compiled.
 
 #[cfg(mathematics = "ours")]
 #[allow(dead_code)]
@@ -15,6 +15,7 @@ extern crate self as rustc_hash;
 use shims::{corpus, error, FxHashMap, Recipe};
 
 use unigram::probe::{Edge, Lattice as Algorithms, LatticeBuilder, LatticeCache, Lent, PieceTrie};
+use unigram::{UnigramTrainer, UnigramTrainerBuilder};
 
 /// The pieces, indexed for walking.
 pub struct Trie(PieceTrie);
@@ -126,5 +127,26 @@ impl Word {
     /// z and an entry an edge, in edge order; +0 where nothing is emitted.
     pub fn expectations(&self, scores: &[f64]) -> (f64, Vec<f64>) {
         self.0.expectations(scores)
+    }
+}
+
+/// The settings that a seed list depends on.
+pub struct Trainer(UnigramTrainer);
+
+/// Each piece with its count, the scores, and how many pieces are required.
+pub type Seeded = (Vec<(String, u64)>, Vec<f64>, usize);
+
+impl Trainer {
+    pub fn new(vocab: usize, seed: Option<usize>, length: usize, minimum: u64, specials: &[String]) -> Trainer {
+        let settings = UnigramTrainerBuilder::new()
+            .vocab_size(vocab)
+            .max_piece_chars(length)
+            .min_frequency(minimum)
+            .special_tokens(specials.iter().cloned());
+        Trainer(if let Some(size) = seed { settings.seed_size(size) } else { settings }.build())
+    }
+
+    pub fn seed(&self, words: &[(&str, u64)]) -> Seeded {
+        self.0.seeded(words)
     }
 }

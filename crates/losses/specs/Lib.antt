@@ -1,0 +1,3 @@
+pub mod Losses
+pub mod Order
+pub mod Steps

@@ -1,0 +1,49 @@
+-- `seed_vectors::replay` ends: the measure is its count of turns. Assumes nothing.
+use borrow.Author.Needs.{needs}
+use Rattle.seed_vectors.proofs.replay.Statement.{statement}
+use Rattle.seed_vectors.proofs.replay.Tie as tie
+
+abbrev Inv-loop : tie.InvT-loop
+Inv-loop texts₀ specials₀ text₀ words₀ frequencies₀ state₀ turns₀ texts specials text words frequencies state turns = Unit
+
+abbrev μ-loop : tie.MeasureT-loop
+μ-loop texts₀ specials₀ text₀ words₀ frequencies₀ state₀ turns₀ texts specials text words frequencies state turns = turns
+
+begun-requires : tie.Need-begun-requires Inv-loop μ-loop
+begun-requires c κs = search needs
+
+loop-holds : tie.Need-loop-holds Inv-loop μ-loop
+loop-holds c = tt
+
+returns : tie.Need-returns Inv-loop μ-loop
+returns c = search needs
+
+turn-requires : tie.Need-turn-requires Inv-loop μ-loop
+turn-requires c κs = search needs
+
+sub-turns : tie.Need-sub-turns Inv-loop μ-loop
+sub-turns c = search needs
+
+loop-less : tie.Need-loop-less Inv-loop μ-loop
+loop-less c = search needs
+
+loop-again : tie.Need-loop-again Inv-loop μ-loop
+loop-again c = tt
+
+returns-2 : tie.Need-returns-2 Inv-loop μ-loop
+returns-2 c = search needs
+
+pub replay-spec : {M : Type 1} → statement M
+replay-spec =
+    tie.close
+    (tie.spec
+    Inv-loop
+    μ-loop
+    begun-requires
+    loop-holds
+    returns
+    turn-requires
+    sub-turns
+    loop-less
+    loop-again
+    returns-2)

@@ -1,0 +1,5 @@
+pub mod Bytes
+pub mod Checking
+pub mod Words
+pub mod Listing
+pub mod Theorems

@@ -1,0 +1,6 @@
+pub mod Adding
+pub mod Paths
+pub mod Spans
+pub mod Whole
+pub mod Theorems
+pub mod Examples
