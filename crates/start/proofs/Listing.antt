@@ -72,7 +72,7 @@ module _ (settings : Settings) (text lent frequencies kept counts chars places o
   bytes-in : bytesBefore (take (2 * r) kept') (many (take (2 * r) kept')) ≤ positionsOf chars places order work ranks
   bytes-in =
       let e : bytesBefore (take (2 * r) kept') (many (take (2 * r) kept')) ≡ bytesBefore (words.spansAt lent (words.chosen text lent (many lent))) (length (words.chosen text lent (many lent))) =
-          ap₂ bytesBefore (kept-front k) (cut-many kept' r spans-in ∙ k .count) in
+      ap₂ bytesBefore (kept-front k) (cut-many kept' r spans-in ∙ k .count) in
       let h = kept-bytes text lent (many lent) in
       let b = l .bounded .words-room in
       omega arith
