@@ -44,7 +44,7 @@ pub fn clear(
 }
 
 // The smaller of two numbers.
-fn smaller(a: usize, b: usize) -> usize
+pub fn smaller(a: usize, b: usize) -> usize
     ensures { λ r. ⌜ r ≡ smaller a b ⌝ }
 {
     if a <= b {
@@ -152,7 +152,7 @@ fn enough(
 }
 
 // The lattices of all words over a trie, laid out; or there are too few slots, and nothing is done.
-fn lay(
+pub fn lay(
     keys: &[u64],
     ends: &[u32],
     text: &[u8],
@@ -202,7 +202,7 @@ fn lay(
 }
 
 // The trie of the pieces, in the first places of both slices.
-fn index_front(
+pub fn index_front(
     keys: &mut [u64],
     ends: &mut [u32],
     places: usize,

@@ -5,7 +5,8 @@ use Prim.Native.Nat.{ℕ}
 use lib.Ieee.{Float, add, lt, ofBits, ofInt}
 use Rattle.math.specs.Steps.{lit, zero as nought}
 use Rattle.lattice.specs.Lattice.{cache}
-use Rattle.uses.specs.Uses.{path, usesOf}
+use Rattle.viterbi.specs.Path.{path}
+use Rattle.uses.specs.Uses.{usesOf}
 
 abbrev four : List (List ℕ)
 four = (97 ∷ []) ∷ (98 ∷ []) ∷ (97 ∷ 98 ∷ []) ∷ (98 ∷ 97 ∷ []) ∷ []

@@ -23,7 +23,7 @@ use Rattle.cached.proofs.Fronts.{Front, begins-front, first-front, next-front}
 use Rattle.cached.proofs.Readback.{four, first-edges}
 use Rattle.cached.proofs.Spans.{same-span}
 use Rattle.cached.proofs.Theorems.{holds-well-formed}
-use Rattle.viterbi.specs.Slices.{WellFormed, Scored}
+use Rattle.viterbi.specs.Slices.{WellFormed}
 use Rattle.viterbi.proofs.Exact.{span-well-formed}
 use Rattle.uses.specs.Uses.{addWord, addLattice, usesTo, usesOf}
 use Rattle.uses.specs.Steps.{Given, Cuttable, WordAt, addSpan}
@@ -113,7 +113,7 @@ word-at {offs} {starts} {ids} {spans} {frequencies} {words} {scores} given w l =
     let n = ap (λ (s : Span). s .n) (own-span (given .lattices) (given .held) w l) in
     let short = given .short w l in
     let many = given .frequent in
-    record { present = good .present; formed = good .formed; scored = given .scored; short = omega arith; frequent = omega arith }
+    record { present = good .present; formed = good .formed; short = omega arith; frequent = omega arith }
 
 -- ---- the parts that are cut out of the cache's slices
 abbrev none : List ℕ
@@ -139,16 +139,15 @@ module _ (offs starts ids spans : List ℕ) (word from to at n past : ℕ) (from
   offsets-part : take (past - at) (drop at offs) ≡ slice at (at + n + 2) offs
   offsets-part = part-is at past offs ∙ ap (λ (k : ℕ). slice at k offs) past-is
 
-  pub cut-formed : (scores : List Float) → Scored scores → spanAt spans word .n ≤ 255 → Formed starts ids offs (length scores) (spanAt spans word)
+  pub cut-formed : (scores : List Float) → spanAt spans word .n ≤ 255 → Formed starts ids offs (length scores) (spanAt spans word)
       → Cuttable (take (past - at) (drop at offs)) (take (to - from) (drop from starts)) (take (to - from) (drop from ids)) scores n
-  cut-formed scores scored short formed =
+  cut-formed scores short formed =
       let w = span-well-formed starts ids offs scores read (subst (Formed starts ids offs (length scores)) (sym read-is) formed) in
       record {
         well-formed =
             subst (λ (x : List ℕ). WellFormed x (take (to - from) (drop from starts)) (take (to - from) (drop from ids)) scores n) (sym offsets-part)
             (subst (λ (x : List ℕ). WellFormed (slice at (at + n + 2) offs) x (take (to - from) (drop from ids)) scores n) (sym (part-is from to starts))
             (subst (λ (x : List ℕ). WellFormed (slice at (at + n + 2) offs) (slice from to starts) x scores n) (sym (part-is from to ids)) w));
-        scored = scored;
         short = subst (λ (k : ℕ). k ≤ 255) (sym n-is) short;
       }
 

@@ -9,20 +9,17 @@ use native.Mathlib.Omega.{arith}
 use lib.ListN.{length, getD}
 use lib.Ieee.{Float}
 use lib.Ieee.Scale.{finite}
-use Rattle.laws.proofs.Choices.{yes}
 use Rattle.laws.proofs.Outcome.{one-outcome}
 use Rattle.lattice.specs.Lattice.{Edge}
 use Rattle.cached.specs.Held.{Held}
 use Rattle.connected.specs.Cut.{Connected, Cut as Chain}
 use Rattle.scores.specs.Cuts.{Cut}
-use Rattle.scores.specs.Table.{best, best-cut}
+use Rattle.scores.specs.Table.{best}
 use Rattle.scores.specs.Floats.{f64s}
-use Rattle.scores.proofs.Theorems.{best-finite}
-use Rattle.viterbi.specs.Slices.{lattice-of, WellFormed, Scored}
-use Rattle.viterbi.specs.Walk.{spell}
-use Rattle.viterbi.proofs.Shapes.{sound}
-use Rattle.viterbi.proofs.Theorems.{best-cut-of}
-use Rattle.uses.specs.Uses.{path, addEach, weightOf, addWord, usesOf}
+use Rattle.viterbi.specs.Slices.{lattice-of, WellFormed}
+use Rattle.viterbi.specs.Path.{path}
+use Rattle.viterbi.proofs.Paths.{path-cases}
+use Rattle.uses.specs.Uses.{addEach, weightOf, addWord, usesOf}
 use Rattle.uses.specs.Steps.{Given}
 use Rattle.uses.specs.Whole.{AllWhole, weight}
 use Rattle.uses.proofs.Whole.{uses-whole}
@@ -53,22 +50,14 @@ module _ (offsets starts ids : List ℕ) (scores : List Float) where
   chain p [] c = c
   chain p (k ∷ ks) c = (c .0 .0, c .0 .1, chain (getD starts k 0) ks (c .1))
 
-  module _ (n : ℕ) (w : WellFormed offsets starts ids scores n) (scored : Scored scores) (none : Connected offsets starts n → ⊥) where
-    no-cut : (b : Bool) → finite (best f64s (lattice-of offsets starts ids scores) n) ≡ b → cond b (spell ids (best-cut f64s (lattice-of offsets starts ids scores) n)) [] ≡ []
-    no-cut true e =
-        let b = best-finite (lattice-of offsets starts ids scores) n (sound w scored) (yes e) .0 in
-        let ks = best-cut f64s (lattice-of offsets starts ids scores) n in
-        absurd (none (record { edges = ks; cut = chain n ks (best-cut-of offsets starts ids scores n w scored .is-cut ks b) }))
-    no-cut false e = refl
-
+  module _ (n : ℕ) (w : WellFormed offsets starts ids scores n) (none : Connected offsets starts n → ⊥) where
     no-path : path offsets starts ids n scores ≡ []
-    unfolding path
-    no-path = no-cut (finite (best f64s (lattice-of offsets starts ids scores) n)) refl
+    no-path = path-cases offsets starts ids scores n w (λ (ids : List ℕ). ids ≡ []) refl (λ cut c. absurd (none (record { edges = cut; cut = chain n cut c })))
 
     pub unconnected-adds-nothing : (frequency : ℕ) (uses : List Float) → addWord offsets starts ids n scores frequency uses ≡ uses
     unconnected-adds-nothing frequency uses = ap (addEach (weightOf frequency) uses) no-path
 
 -- ---- where words weigh at most 2^48, each use is a whole number, which a float holds exactly: finite, and +0 or greater
-pub uses-are-whole : (offsets starts ids spans : List ℕ) (words : ℕ) (frequencies : List ℕ) (scores : List Float) (lattices : List (List (List Edge))) → Held starts ids offsets spans (length scores) words lattices → Scored scores
+pub uses-are-whole : (offsets starts ids spans : List ℕ) (words : ℕ) (frequencies : List ℕ) (scores : List Float) (lattices : List (List (List Edge))) → Held starts ids offsets spans (length scores) words lattices
     → weight lattices frequencies (length lattices) ≤ 281474976710656 → AllWhole (usesOf lattices frequencies scores) (weight lattices frequencies (length lattices))
-uses-are-whole offsets starts ids spans words frequencies scores lattices held scored light = uses-whole lattices frequencies scores (held .rows) scored (length lattices) (le-refl (length lattices)) (omega arith)
+uses-are-whole offsets starts ids spans words frequencies scores lattices held light = uses-whole lattices frequencies scores (held .rows) (length lattices) (le-refl (length lattices)) (omega arith)

@@ -1,6 +1,6 @@
 -- Uses are whole numbers that a float holds exactly, as long as the words weigh less than 2^53. Assumes nothing.
 use mathlib.Core.Path.{_≡_, refl, sym, ap, _∙_, subst}
-use mathlib.Core.Bool.{Bool, true, false, cond}
+use mathlib.Core.Bool.{Bool, true, false}
 use mathlib.Core.List.{List, [], _∷_, map}
 use Prim.Native.Nat.{ℕ, zero, suc, _+_, _*_, _^_, _≤_, _<_}
 use native.Mathlib.Nat.{le-refl, lt-of-lt-of-le, add-mul, mul-suc, mul-le-mul-left, mul-lt-mul-of-pos-right}
@@ -8,12 +8,10 @@ use native.Mathlib.Omega.{arith}
 use borrow.Author.Tests.{eqb-true, eqb-false}
 use lib.Dec.{eqb, lit≤}
 use lib.Pow.{pow-pos}
-use lib.ListN.{length, getD, length-map, length-reverse, length-set, length-replicate, getD-replicate}
+use lib.ListN.{length, getD, length-set, length-replicate, getD-replicate}
 use lib.Seq.{getD-set-same, getD-set-other}
 use lib.Ieee.{Float, nan, binary64, ofBits}
 use lib.Ieee.Exact.{round-exact}
-use lib.Ieee.Scale.{finite}
-use Rattle.laws.proofs.Choices.{yes}
 use Rattle.rounding.specs.Units.{Is}
 use Rattle.rounding.proofs.Operations.{add-units}
 use Rattle.rounding.proofs.Casts.{int-is}
@@ -23,15 +21,12 @@ use Rattle.lattice.specs.Layout.{joined, offsets, charCount}
 use Rattle.formed.specs.Held.{Rows}
 use Rattle.cached.specs.Held.{Lattices}
 use Rattle.scores.specs.Cuts.{Cut}
-use Rattle.scores.specs.Table.{best, best-cut}
-use Rattle.scores.specs.Floats.{f64s}
-use Rattle.scores.proofs.Theorems.{best-finite}
-use Rattle.viterbi.specs.Slices.{lattice-of, WellFormed, Scored}
-use Rattle.viterbi.specs.Walk.{spell}
-use Rattle.viterbi.proofs.Shapes.{end-of, sound}
-use Rattle.viterbi.proofs.Theorems.{best-cut-of}
+use Rattle.viterbi.specs.Slices.{lattice-of, WellFormed}
+use Rattle.viterbi.specs.Path.{path}
+use Rattle.viterbi.proofs.Shapes.{end-of}
+use Rattle.viterbi.proofs.Paths.{spelt-long, path-cases}
 use Rattle.viterbi.proofs.Exact.{exact}
-use Rattle.uses.specs.Uses.{path, weightOf, addOne, addEach, usesTo}
+use Rattle.uses.specs.Uses.{weightOf, addOne, addEach, usesTo}
 use Rattle.uses.specs.Whole.{Whole, AllWhole, weight}
 
 -- ---- one sum
@@ -81,7 +76,7 @@ add-each weight f w (i ∷ ids) uses most l a id h =
     first m f p q s l = omega arith
 
 -- ---- a path has no more pieces than its word has characters
-module _ {offs starts ids : List ℕ} {scores : List Float} {n : ℕ} (w : WellFormed offs starts ids scores n) (scored : Scored scores) where
+module _ {offs starts ids : List ℕ} {scores : List Float} {n : ℕ} (w : WellFormed offs starts ids scores n) where
   cut-short : (ks : List ℕ) (p : ℕ) → p ≤ n → Cut (lattice-of offs starts ids scores) p ks → length ks ≤ p
   cut-short [] p l c = omega arith
   cut-short (k ∷ ks) p l c =
@@ -89,18 +84,8 @@ module _ {offs starts ids : List ℕ} {scores : List Float} {n : ℕ} (w : WellF
       let r = cut-short ks (getD starts k 0) (omega arith) (c .1) in
       omega arith
 
-  path-by : (b : Bool) → finite (best f64s (lattice-of offs starts ids scores) n) ≡ b → length (cond b (spell ids (best-cut f64s (lattice-of offs starts ids scores) n)) []) ≤ n
-  path-by true e =
-      let ks = best-cut f64s (lattice-of offs starts ids scores) n in
-      let b = best-finite (lattice-of offs starts ids scores) n (sound w scored) (yes e) .0 in
-      let s = cut-short ks n (le-refl n) (best-cut-of offs starts ids scores n w scored .is-cut ks b) in
-      let a : length (spell ids ks) ≡ length ks = length-reverse (map (λ k. getD ids k 0) ks) ∙ length-map ks (λ k. getD ids k 0) in
-      omega arith
-  path-by false e = omega arith
-
   path-short : length (path offs starts ids n scores) ≤ n
-  unfolding path
-  path-short = path-by (finite (best f64s (lattice-of offs starts ids scores) n)) refl
+  path-short = path-cases offs starts ids scores n w (λ (path : List ℕ). length path ≤ n) (omega arith) (λ cut c. let s = cut-short cut n (le-refl n) c in let a = spelt-long ids cut in omega arith)
 
 -- ---- a word
 word-whole : (frequency n most : ℕ) (ids : List ℕ) (uses : List Float) → length ids ≤ n → most + frequency * n < 9007199254740992 → AllWhole uses most → AllWhole (addEach (weightOf frequency) uses ids) (most + frequency * n)
@@ -127,7 +112,7 @@ lattice-at pieces ([] ∷ ls) v h sound = absurd sound
 lattice-at pieces ((row ∷ rows) ∷ ls) zero h sound = (omega arith, sound .0)
 lattice-at pieces ((row ∷ rows) ∷ ls) (suc v) h sound = lattice-at pieces ls v (omega arith) (sound .1)
 
-module _ (lattices : List (List (List Edge))) (frequencies : List ℕ) (scores : List Float) (rows : Lattices (length scores) lattices) (scored : Scored scores) where
+module _ (lattices : List (List (List Edge))) (frequencies : List ℕ) (scores : List Float) (rows : Lattices (length scores) lattices) where
   pub uses-whole : (words : ℕ) → words ≤ length lattices → weight lattices frequencies words < 9007199254740992 → AllWhole (usesTo lattices frequencies scores words) (weight lattices frequencies words)
   uses-whole zero l h = λ id i. subst (λ (x : Float). Whole x 0) (sym (getD-replicate (length scores) id nought nan (subst (λ (k : ℕ). id < k) (length-replicate (length scores) nought) i))) nought-whole
   uses-whole (suc word) l h =
@@ -135,7 +120,7 @@ module _ (lattices : List (List (List Edge))) (frequencies : List ℕ) (scores :
       let r = lattice-at (length scores) lattices word (omega arith) rows in
       let w = exact {scores = scores} {n = charCount lattice} lattice refl refl refl (r .0) (r .1) in
       word-whole (getD frequencies word 0) (charCount lattice) (weight lattices frequencies word) (path (offsets lattice) (map (λ e. e .start) (joined lattice)) (map (λ e. e .id) (joined lattice)) (charCount lattice) scores) (usesTo lattices frequencies scores word)
-      (path-short w scored) h (uses-whole word (omega arith) (less (weight lattices frequencies word) (getD frequencies word 0 * charCount lattice) h))
+      (path-short w) h (uses-whole word (omega arith) (less (weight lattices frequencies word) (getD frequencies word 0 * charCount lattice) h))
     where
       less : (a b : ℕ) → a + b < 9007199254740992 → a < 9007199254740992
       less a b h = omega arith

@@ -11,7 +11,7 @@ use Rattle.formed.specs.declared.Span.{Span}
 use Rattle.formed.specs.Formed.{Formed}
 use Rattle.cached.specs.Cached.{spanAt, Present}
 use Rattle.cached.specs.Held.{Held}
-use Rattle.viterbi.specs.Slices.{WellFormed, Scored}
+use Rattle.viterbi.specs.Slices.{WellFormed}
 use Rattle.uses.specs.Uses.{addWord}
 
 -- the slices hold the lattices of so many words, each piece id has a score, and each word a frequency and at most 255 characters
@@ -21,7 +21,6 @@ pub record Given (offsets starts ids spans frequencies : List ℕ) (words : ℕ)
   pub equally-many : length starts ≡ length ids
   pub short : (word : ℕ) → word < words → charCount (getD lattices word []) ≤ 255
   pub frequent : words ≤ length frequencies
-  pub scored : Scored scores
 
 -- ---- the steps
 -- "A word has 0 to 255 bytes", and so at most 256 positions
@@ -38,14 +37,12 @@ Named pieces (id ∷ ids) = (id < pieces) × Named pieces ids
 -- a word's own slices
 pub record Cuttable (offsets starts ids : List ℕ) (scores : List Float) (n : ℕ) : Type 0 where
   pub well-formed : WellFormed offsets starts ids scores n
-  pub scored : Scored scores
   pub short : n ≤ 255
 
 -- a word's lattice stands at its span, and it has a frequency
 pub record WordAt (offsets starts ids spans frequencies : List ℕ) (scores : List Float) (word : ℕ) : Type 0 where
   pub present : Present spans word
   pub formed : Formed starts ids offsets (length scores) (spanAt spans word)
-  pub scored : Scored scores
   pub short : spanAt spans word .n ≤ 255
   pub frequent : word < length frequencies
 

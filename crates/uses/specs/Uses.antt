@@ -1,23 +1,13 @@
 -- How often each piece is used: 001's `uses`. A float's bits depend on the order of its sums: words in order, then the pieces of a word's best cut in order. Definitions only.
-use mathlib.Core.Bool.{cond}
 use mathlib.Core.List.{List, [], _∷_, map}
 use Prim.Native.Nat.{ℕ, zero, suc}
 use lib.IntN.{pos}
 use lib.ListN.{length, getD, set, replicate}
 use lib.Ieee.{Float, nan, binary64, ofInt}
-use lib.Ieee.Scale.{finite}
 use Rattle.math.specs.Steps.{_⊕_, zero as nought}
 use Rattle.lattice.specs.Lattice.{Edge}
 use Rattle.lattice.specs.Layout.{joined, offsets, charCount}
-use Rattle.scores.specs.Table.{best, best-cut}
-use Rattle.scores.specs.Floats.{f64s}
-use Rattle.viterbi.specs.Slices.{lattice-of}
-use Rattle.viterbi.specs.Walk.{spell}
-
--- the ids on the best cut of a word of n characters, the first piece's first; none where no cut has a finite sum
-unfoldable pub path : List ℕ → List ℕ → List ℕ → ℕ → List Float → List ℕ
-path offsets starts ids n scores =
-    cond (finite (best f64s (lattice-of offsets starts ids scores) n)) (spell ids (best-cut f64s (lattice-of offsets starts ids scores) n)) []
+use Rattle.viterbi.specs.Path.{path}
 
 -- a frequency as an f64, the nearest
 abbrev pub weightOf : ℕ → Float

@@ -6,7 +6,7 @@
 // made once: a word has at most 255 characters.
 use formed::read;
 use lent::clear_floats;
-use viterbi::viterbi_core;
+use viterbi::path_core;
 ghost use mathlib.Core.Path.{_≡_};
 ghost use mathlib.Core.List.{List};
 ghost use lib.ListN.{length, getD};
@@ -46,8 +46,7 @@ fn add_lattice(
     requires { ⌜ Work (length (now best)) (length (now back)) (length (now path)) × (length (now uses) ≡ length (now scores)) ⌝ }
     ensures { λ _. ⌜ now (uses .exit) ≡ addWord (now (offsets .entry)) (now (starts .entry)) (now (ids .entry)) n (now (scores .entry)) frequency (now (uses .entry)) ⌝ }
 {
-    let cutting = viterbi_core(offsets, starts, ids, scores, best, back, path, n);
-    let count = cutting.count;
+    let count = path_core(offsets, starts, ids, scores, best, back, path, n);
     let weight = std::num::nearest_u64_to_f64(frequency);
     add_path(&path[..count], uses, weight);
 }
@@ -129,7 +128,7 @@ fn add_words(
 }
 
 // How often each piece is used over the words of a cache. For whatever lattices the slices hold, `uses` is that of those
-// lattices. It has as many slots as there are scores.
+// lattices. It has as many slots as there are scores. The scores may be any: EM's are not known to be at zero or below.
 pub fn uses(
     offsets: &[u32],
     starts: &[u32],

@@ -8,7 +8,7 @@ use native.Mathlib.Nat.{not-suc-le-zero, le-of-suc-le-suc}
 use lib.Dec.{T}
 use lib.IntN.{pos}
 use lib.ListN.{length}
-use lib.Ieee.{Float, fin, binary64, add, lt, ofBits}
+use lib.Ieee.{Float, nan, inf, fin, binary64, add, lt, ofBits}
 use lib.Ieee.Fits.{and-l, and-r}
 use Rattle.lattice.specs.Lattice.{lattice}
 use Rattle.lattice.specs.Layout.{joined, offsets}
@@ -16,6 +16,7 @@ use Rattle.scores.specs.Cuts.{Lattice}
 use Rattle.scores.specs.Floats.{zero-or-below}
 use Rattle.viterbi.specs.declared.Best.the-variants.{Score, NoPath}
 use Rattle.viterbi.specs.Slices.{lattice-of, Scored}
+use Rattle.viterbi.specs.Path.{path}
 use Rattle.viterbi.specs.Outcome.{Outcome, outcome}
 use Rattle.viterbi.specs.Answers.{Answers}
 use native.Mathlib.Omega.{arith}
@@ -95,3 +96,20 @@ example-that-piece x y = comes (a ∷ b ∷ ab ∷ []) ab (steep ∷ steep ∷ m
 pub example-empty : (pieces : List (List ℕ)) (scores : List Float) → length scores ≡ length pieces → Scored scores → (before : List ℕ)
     → Comes pieces [] scores before (record { best = Score (fin false 0 (pos 0)); count = 0; slots = before })
 example-empty pieces scores many scored before = comes pieces [] scores many scored before _ refl
+
+-- ---- other scores, for `path_core`. Word ab: a piece of NaN is above nothing, and so is not used
+abbrev path-of : List (List ℕ) → List ℕ → List Float → List ℕ
+path-of pieces word scores = path (offsets (lattice 16 pieces word)) (starts pieces word scores) (ids pieces word scores) (length word) scores
+
+pub example-nan : path-of (a ∷ b ∷ ab ∷ []) ab (fin false 1 (pos 0) ∷ minus 1 ∷ nan ∷ []) ≡ 0 ∷ 1 ∷ []
+unfolding path add lt
+example-nan = refl
+
+-- a sum of plus infinity is not finite, and plus and minus infinity sum to NaN: no path
+pub example-infinite : path-of (a ∷ b ∷ []) ab (inf false ∷ minus 1 ∷ []) ≡ []
+unfolding path add lt
+example-infinite = refl
+
+pub example-both-infinities : path-of (a ∷ b ∷ []) ab (inf false ∷ inf true ∷ []) ≡ []
+unfolding path add lt
+example-both-infinities = refl

@@ -3,6 +3,10 @@ pub mod Shapes
 pub mod Filled
 pub mod Turns
 pub mod Walks
+pub mod Floats
+pub mod Reached
+pub mod Passed
+pub mod Paths
 pub mod Found
 pub mod Exact
 pub mod Excluding

@@ -1,8 +1,11 @@
 -- What is proved of the best cut of a word. `viterbi_core` and `short_core` promise `Answers`: it fits one outcome, which can
--- be worked out. `excluding_core` promises the table without a piece. Examples.antt has document 01's. Assumes nothing.
+-- be worked out. `path_core` promises `path`: whatever the scores are, that is none or a cut's ids (Paths.antt, `path-cases`), and
+-- here the best cut's where they are at zero or below. `excluding_core` promises the table without a piece. Examples.antt has
+-- document 01's. Assumes nothing.
 use mathlib.Core.Path.{_≡_, refl, sym, ap, _∙_, subst}
+use mathlib.Core.Bool.{Bool, true, false}
 use mathlib.Core.Logic.{_↔_}
-use mathlib.Core.List.{List, _++_}
+use mathlib.Core.List.{List, [], _++_}
 use Prim.Native.Nat.{ℕ, _+_, _-_}
 use native.Mathlib.Omega.{arith}
 use lib.ListN.{length, drop}
@@ -12,16 +15,18 @@ use Rattle.laws.proofs.Choices.{yes, cond-cases}
 use Rattle.scores.specs.Cuts.{Lattice, sum}
 use Rattle.scores.specs.Table.{best, best-cut}
 use Rattle.scores.specs.Floats.{f64s}
-use Rattle.scores.specs.Best.{FiniteCut, BestCutTheorem}
+use Rattle.scores.specs.Best.{FiniteCut, BestCut, BestCutTheorem}
 use Rattle.scores.proofs.Theorems.{best-finite, none-finite, best-cut-theorem}
 use Rattle.viterbi.specs.declared.Best.{Best}
 use Rattle.viterbi.specs.declared.Best.the-variants.{Score, NoPath}
 use Rattle.viterbi.specs.Slices.{lattice-of, without, WellFormed, Scored}
 use Rattle.viterbi.specs.Walk.{spell}
+use Rattle.viterbi.specs.Path.{path}
 use Rattle.viterbi.specs.Answers.{Found, Answers}
 use Rattle.viterbi.specs.Outcome.{Outcome, outcome}
 use Rattle.viterbi.specs.Excluding.{BestWithout}
 use Rattle.viterbi.proofs.Shapes.{sound}
+use Rattle.viterbi.proofs.Paths.{path-found, path-none}
 use Rattle.viterbi.proofs.Excluding.{best-without}
 
 module _ (offsets starts ids : List ℕ) (scores : List Float) (n : ℕ) (w : WellFormed offsets starts ids scores n) (scored : Scored scores) where
@@ -31,6 +36,21 @@ module _ (offsets starts ids : List ℕ) (scores : List Float) (n : ℕ) (w : We
   -- ---- demand 3, second part, of the word's lattice in its slices
   pub best-cut-of : BestCutTheorem l n
   best-cut-of = best-cut-theorem l n (sound w scored)
+
+  -- ---- the path is the best cut's ids, and none where no cut has a finite sum
+  pub path-spells : (cut : List ℕ) → BestCut l n cut → path offsets starts ids n scores ≡ spell ids cut
+  path-spells cut b = go (finite (best f64s l n)) refl
+    where
+      go : (t : Bool) → finite (best f64s l n) ≡ t → path offsets starts ids n scores ≡ spell ids cut
+      go true e = path-found offsets starts ids scores n e ∙ ap (spell ids) (best-cut-of .no-second (best-cut f64s l n) cut (best-finite l n (sound w scored) (yes e) .0) b)
+      go false e = absurd (none-finite l n (sound w scored) e cut (best-cut-of .is-cut cut b) (b .is-finite))
+
+  pub path-missing : (FiniteCut l n → ⊥) → path offsets starts ids n scores ≡ []
+  path-missing none = go (finite (best f64s l n)) refl
+    where
+      go : (t : Bool) → finite (best f64s l n) ≡ t → path offsets starts ids n scores ≡ []
+      go true e = absurd (none (best-cut-of .given-exactly .1 (best-cut f64s l n, best-finite l n (sound w scored) (yes e) .0)))
+      go false e = path-none offsets starts ids scores n e
 
   -- ---- the promise fits the outcome that is worked out, and no second one
   module _ (before : List ℕ) where

@@ -1,5 +1,6 @@
 pub mod Slices
 pub mod Walk
+pub mod Path
 pub mod Answers
 pub mod Outcome
 pub mod Excluding

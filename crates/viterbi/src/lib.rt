@@ -1,19 +1,22 @@
 // The best cut of one word, over its lattice in exact slices: document 01, port order 7.
 //
-// `viterbi_core` and `short_core` are 000's `viterbi`, `excluding_core` is its `viterbi_excluding`. They take what callers
-// have checked: a well-formed lattice, scores at zero or below, and room. The forward pass is one pass over the edges, ends
-// rising. The walk back goes twice, to count and then to write from the end, so that nothing is turned round afterwards.
-// What the answer means is the crate `scores`: a cut that wins, said of cuts alone.
+// `path_core`, `viterbi_core` and `short_core` are 000's `viterbi`, `excluding_core` is its `viterbi_excluding`. They take what
+// callers have checked: a well-formed lattice and room. `path_core` takes any scores, as 000 does. The others that give a path
+// take scores at zero or below, and say what their answer means: a cut that wins, said of cuts alone, in the crate `scores`.
+// The forward pass is one pass over the edges, ends rising. The walk back goes twice, to count and then to write from the end,
+// so that nothing is turned round afterwards.
 ghost use mathlib.Core.Path.{_≡_};
 ghost use mathlib.Core.Bool.{true};
 ghost use mathlib.Core.List.{List, _++_};
 ghost use Prim.Native.Nat.{ℕ, _+_, _≤_, _<_};
 ghost use lib.ListN.{length, drop, replicate};
 ghost use lib.Ieee.{inf};
+ghost use lib.Ieee.Scale.{finite};
 ghost use Rattle.scores.specs.Table.{step, ending, table, edges-to, best as greatest};
 ghost use Rattle.scores.specs.Floats.{f64s};
 ghost use Rattle.viterbi.specs.Slices.{edges-of, lattice-of, without, seen, Readable, EndReadable, WellFormed};
 ghost use Rattle.viterbi.specs.Walk.{Walk, spell};
+ghost use Rattle.viterbi.specs.Path.{path};
 ghost use Rattle.viterbi.specs.Answers.{Asked, Behind, Answers};
 
 // The greatest sum at one position so far, and the edge that gave it.
@@ -27,6 +30,13 @@ fn lowest() -> f64
     ensures { λ r. ⌜ r ≡ inf true ⌝ }
 {
     -1.0 / 0.0
+}
+
+// Neither a NaN nor an infinity.
+fn is_finite(x: f64) -> bool
+    ensures { λ r. ⌜ r ≡ finite x ⌝ }
+{
+    x > lowest() && x < 1.0 / 0.0
 }
 
 // The better of the choice and edge k, the choice where they are level. An edge of the excluded piece offers nothing.
@@ -144,6 +154,35 @@ fn write_back(starts: &[u32], ids: &[u32], back: &[u32], out: &mut [u32], n: usi
     }
 }
 
+// The ids on the best cut of a word of n characters, in front of `out`, whose other slots are kept. Where the greatest sum is not
+// finite, nothing is written. Scores may be any: a position whose sum is above minus infinity was reached from one like it.
+pub fn path_core(
+    offsets: &[u32],
+    starts: &[u32],
+    ids: &[u32],
+    scores: &[f64],
+    best: &mut [f64],
+    back: &mut [u32],
+    out: &mut [u32],
+    n: usize,
+) -> usize
+    requires { ⌜ WellFormed (now offsets) (now starts) (now ids) (now scores) n ⌝ }
+    requires { ⌜ (n < length (now best)) × (n < length (now back)) × (n ≤ length (now out)) ⌝ }
+    ensures { λ r. ⌜ r ≡ length (path (now (offsets .entry)) (now (starts .entry)) (now (ids .entry)) n (now (scores .entry))) ⌝ }
+    ensures { λ r. ⌜ now (out .exit) ≡ path (now (offsets .entry)) (now (starts .entry)) (now (ids .entry)) n (now (scores .entry)) ++ drop r (now (out .entry)) ⌝ }
+    ensures { λ _. ⌜ now (best .exit) ≡ table f64s (lattice-of (now (offsets .entry)) (now (starts .entry)) (now (ids .entry)) (now (scores .entry))) n ++ drop (n + 1) (now (best .entry)) ⌝ }
+    ensures { λ _. ⌜ Behind n (now (best .entry)) (now (best .exit)) × Behind n (now (back .entry)) (now (back .exit)) ⌝ }
+{
+    forward(offsets, starts, ids, scores, scores.len(), best, back, n);
+    if is_finite(best[n]) {
+        let count = count_back(starts, ids, back, n);
+        write_back(starts, ids, back, out, n, count);
+        count
+    } else {
+        0
+    }
+}
+
 // "the best cut is either a score or no path"
 pub enum Best {
     Score(f64),
@@ -173,12 +212,9 @@ pub fn viterbi_core(
     ensures { λ r. ⌜ Answers (lattice-of (now (offsets .entry)) (now (starts .entry)) (now (ids .entry)) (now (scores .entry))) (now (ids .entry)) n (now (out .entry)) (now (out .exit)) (r .best) (r .count) ⌝ }
     ensures { λ _. ⌜ Behind n (now (best .entry)) (now (best .exit)) × Behind n (now (back .entry)) (now (back .exit)) ⌝ }
 {
-    forward(offsets, starts, ids, scores, scores.len(), best, back, n);
+    let count = path_core(offsets, starts, ids, scores, best, back, out, n);
     let top = best[n];
-    let low = lowest();
-    if top > low {
-        let count = count_back(starts, ids, back, n);
-        write_back(starts, ids, back, out, n, count);
+    if is_finite(top) {
         Cutting {
             best: Best::Score(top),
             count,
@@ -186,7 +222,7 @@ pub fn viterbi_core(
     } else {
         Cutting {
             best: Best::NoPath,
-            count: 0,
+            count,
         }
     }
 }

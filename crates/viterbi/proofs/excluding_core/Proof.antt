@@ -12,7 +12,7 @@ use Rattle.viterbi.specs.Slices.{lattice-of, without, seen}
 use Rattle.viterbi.proofs.Shapes.{readable}
 use Rattle.viterbi.proofs.Filled.{Filled, filled-one}
 use Rattle.viterbi.proofs.Turns.{sum-turn}
-use Rattle.viterbi.proofs.Found.{behind, top-is}
+use Rattle.viterbi.proofs.Passed.{behind, top-is}
 use Rattle.viterbi.proofs.excluding_core.Statement.{statement}
 use Rattle.viterbi.proofs.excluding_core.Tie as tie
 
