@@ -1,0 +1,4 @@
+pub mod Distinct
+pub mod Words
+pub mod Pieces
+pub mod First

@@ -1,0 +1,3 @@
+pub mod Improved
+pub mod Turned
+pub mod Looped
