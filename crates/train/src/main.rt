@@ -1,0 +1,71 @@
+// The program `train`: frames in on standard input, tokens out on standard output. Document 01, "Frames".
+//
+// It reads to the end of the input, whatever stands there, in memory that does not grow: a line of more than 530 digits is no
+// frame, and of what has no room only that is kept. Then the first refusal that applies is told: BadFrame, NoRoom 5, and
+// training's own. It ends with status 0, refused or not, and writes nothing to standard error.
+//
+// No contract can say what is read, so the proofs begin behind that: from the bytes of a chunk to the frames of its lines
+// (specs/Lines.antt, proofs/Theorems.antt), and from there in the crates `frames` and `training`.
+//
+// stdin and stdout beside src/ are document 01's sample. The file cases has some hundred inputs more and what is printed for each:
+// tools/vectors/train.py makes it, and tools/train.py runs it.
+mod learn;
+mod lines;
+mod show;
+mod store;
+
+use frames::Ended;
+use learn::learn;
+use lines::Input;
+use lines::read_input;
+use refusal::Refusal;
+use show::tell_refusal;
+use store::Stored;
+
+// Trains on what was stored, if the input is in order and there was room for it.
+fn answer(
+    ended: Ended,
+    stored: Stored,
+    texts: &[u8; 65280],
+    specials: &[u32; 514],
+    text: &[u8; 8192],
+    words: &[u32; 512],
+    frequencies: &[u64; 256],
+) {
+    match ended {
+        Ended::Broken(line) => tell_refusal(Refusal::BadFrame(line)),
+        Ended::Whole => {
+            if stored.short {
+                tell_refusal(Refusal::NoRoom(refusal::NO_ROOM_WORDS));
+            } else {
+                learn(stored, texts, specials, text, words, frequencies);
+            }
+        }
+    }
+}
+
+fn main() {
+    let mut texts = [0u8; 65280];
+    let mut specials = [0u32; 514];
+    let mut text = [0u8; 8192];
+    let mut words = [0u32; 512];
+    let mut frequencies = [0u64; 256];
+    let input = read_input(
+        &mut texts,
+        &mut specials,
+        &mut text,
+        &mut words,
+        &mut frequencies,
+    );
+    let ended = frames::finish(input.reading);
+    let stored = input.stored;
+    answer(
+        ended,
+        stored,
+        &texts,
+        &specials,
+        &text,
+        &words,
+        &frequencies,
+    );
+}
