@@ -1,4 +1,6 @@
-/* What C can call of Causeylark: the library that `tools/native-staticlib export` writes to target/native/libexport.a.
+/* What C can call of Causeylark: the libraries that tools/native-staticlib writes to target/native. All but training is in
+   libexport.a (`tools/native-staticlib export`), and training is in libexport_train.a (`tools/native-staticlib export_train`). A
+   program that calls both links both.
 
    A slice is two arguments, a pointer and how many elements it has. The pointer is not NULL, even where the count is 0. The
    slices that are not const overlap no other slice of the call. Nothing else is demanded of a caller: no content, size or
@@ -26,15 +28,24 @@ double causeylark_ln_1p(double y);
    character. */
 size_t causeylark_utf8_valid_up_to(const uint8_t *text, size_t bytes);
 
-/* ---- Refusals: what a call of lattices or cuts answers. The place says where: it stands in told[0]. */
+/* ---- Refusals: what a call of lattices, cuts or training answers. The place says where: it stands in told[0]. */
 enum causeylark_answer {
     CAUSEYLARK_ACCEPTED = 0,
-    /* The piece length setting is over CAUSEYLARK_PIECE_LENGTH. Place: 3. */
+    /* A setting is beyond its bound. Place: one of causeylark_setting; of lattices and cuts, the piece length alone. */
     CAUSEYLARK_BAD_SETTING = 2,
-    /* A word is over CAUSEYLARK_WORD_BYTES, outside the text, or not UTF-8. Place: the word's index. */
+    /* A word is over CAUSEYLARK_WORD_BYTES or outside the text; of lattices and cuts, or not UTF-8; of training, or has
+       frequency 0. Place: the word's index. */
     CAUSEYLARK_BAD_WORD = 3,
+    /* A word has equal bytes to an earlier one. Place: the word's index. */
+    CAUSEYLARK_REPEATED_WORD = 4,
+    /* Frequencies times characters, over the words that are UTF-8, are over 2^48 in all. Place: 0. */
+    CAUSEYLARK_TOO_HEAVY = 5,
+    /* There is no word, or none is UTF-8. Place: 0. */
+    CAUSEYLARK_EMPTY_CORPUS = 6,
     /* There is no room. Place: one of causeylark_room. */
     CAUSEYLARK_NO_ROOM = 7,
+    /* vocab_size has no room for every character and every special. Place: how many those are. */
+    CAUSEYLARK_VOCAB_TOO_SMALL = 8,
     /* A lattice that is lent is not well formed, or a piece of it has no score. Place: the word's index; of a call on one
        word's lattice, 0. */
     CAUSEYLARK_BAD_LATTICE = 9,
@@ -50,15 +61,26 @@ enum causeylark_answer {
     CAUSEYLARK_REPEATED_PIECE = 15
 };
 
+enum causeylark_setting {
+    CAUSEYLARK_SETTING_VOCAB = 1,
+    CAUSEYLARK_SETTING_SEED = 2,
+    CAUSEYLARK_SETTING_PIECE_LENGTH = 3,
+    CAUSEYLARK_SETTING_EM = 4,
+    CAUSEYLARK_SETTING_SPECIALS = 5
+};
+
 enum causeylark_room {
-    /* More words, pieces or bytes of a text than the bounds below, or `table` has fewer than 2 slots a piece. */
+    /* More words, pieces or bytes of a text than the bounds below, or `table` has fewer than 2 slots a piece; of training, or
+       `table`, `kept`, `counts` or a slice that a position indexes has too few slots. */
     CAUSEYLARK_ROOM_BOUNDS = 0,
+    /* The seed list before its cut exceeds the piece slots. Of training alone. */
+    CAUSEYLARK_ROOM_PIECES = 1,
     /* The distinct non-empty prefixes of the pieces and the root exceed half of the trie's places. */
     CAUSEYLARK_ROOM_TRIE = 2,
-    /* The results have too few slots; of a call of cuts, a work slice has no slot for each of n + 1 positions, or `emitted` no
+    /* The lattices have too few slots; of a call of cuts, a work slice has no slot for each of n + 1 positions, or `emitted` no
        entry for each edge. */
     CAUSEYLARK_ROOM_RESULTS = 3,
-    /* The path has fewer than n slots. */
+    /* The path has fewer than n slots; of training, the tokens exceed the slots of their bytes, spans or scores. */
     CAUSEYLARK_ROOM_PATH = 4
 };
 
@@ -68,6 +90,11 @@ enum causeylark_room {
 #define CAUSEYLARK_WORDS 16384
 #define CAUSEYLARK_PIECES 1048576
 #define CAUSEYLARK_TEXT_BYTES 1048576
+#define CAUSEYLARK_VOCAB_SIZE 65536
+#define CAUSEYLARK_SEED_SIZE 1048576
+#define CAUSEYLARK_EM_ITERATIONS 100
+#define CAUSEYLARK_SPECIALS 256
+#define CAUSEYLARK_SPECIAL_BYTES 255
 
 /* In a remap: the piece is gone. */
 #define CAUSEYLARK_PRUNED UINT32_MAX
@@ -230,6 +257,69 @@ uint32_t causeylark_cut(size_t setting,
                         uint32_t *table, size_t table_slots,
                         double *sum, size_t sum_slots,
                         uint64_t *told, size_t told_slots);
+
+/* ---- Training
+
+   Words with frequencies in, tokens with scores out. Words are spans of `text` and specials of `special_text`: two numbers each,
+   where its bytes begin and how many they are. Words may overlap. A word has a frequency, and the shorter of `words` and
+   `frequencies` counts. A word that is not UTF-8 is skipped.
+
+   Settings: vocab_size, how many tokens there are to be, specials among them; seed_flag and seed_size, how many pieces to begin
+   with, 16 times as many as there are to be where the flag is 0; max_piece_chars, the most characters of a piece; min_frequency,
+   how often a piece of more than one character has to stand in the words; shrink_factor, the part of the pieces that a round
+   keeps; em_iterations, how many passes of EM a round has. The Rust's defaults are 8000, flag 0, 16, 2, 0.75, 2, and no special.
+
+   Results: the specials come first, with score 0, then the pieces, those of one character first. `bytes` has the bytes of all
+   tokens one after the other, `tokens` two numbers a token, where its bytes begin and how many they are, and `token_scores` a
+   score a token. After an accepted call told[0] is the number of tokens, told[1] the number of required pieces, which are those
+   of one character, and told[2] is 1 where training stalled over its target, else 0; the other slots of the results are kept. A
+   refusal leaves the results as they were, and told[0] is its place. What has no slot in `told` is not told.
+
+   Work: all other slices. They may hold anything, and are zero after every call, however long. With S piece slots, and P the
+   larger of text_bytes and the bytes of all words together, so many slots are asked for:
+
+   - kept and table 2 a word, counts 1 a word; chars P, places 3 P: else NO_ROOM at 0.
+   - order, work and ranks P, and S: NO_ROOM at 0 or at 1. pieces 2 S; tallies, scores and expected S: NO_ROOM at 1. The list
+     before its cut has every character once, and every longer string of up to max_piece_chars characters that stands in the
+     words min_frequency times. CAUSEYLARK_EDGES(P, max_piece_chars), and P if that is 0, always suffices for S, and is generous.
+   - keys and ends, the trie's places: 2 (S + 1) always suffices. NO_ROOM at 2.
+   - offsets CAUSEYLARK_OFFSETS(words, P), starts and ids CAUSEYLARK_EDGES(P, max_piece_chars), spans CAUSEYLARK_SPANS(words):
+     NO_ROOM at 3. P edges suffice where max_piece_chars is 0.
+   - tokens 2 and token_scores 1 for each token: with a shrink_factor below 1 there are no more than the larger of vocab_size
+     and the specials; bytes for all of them. NO_ROOM at 4.
+
+   Checks in this order: BAD_SETTING, NO_ROOM at 0, BAD_WORD, REPEATED_WORD, TOO_HEAVY, EMPTY_CORPUS, NO_ROOM at 1,
+   VOCAB_TOO_SMALL, NO_ROOM at 2, NO_ROOM at 3, NO_ROOM at 4. The first that applies is given, with the lowest place. */
+uint32_t causeylark_train(size_t vocab_size, uint32_t seed_flag, size_t seed_size,
+                          size_t max_piece_chars, uint64_t min_frequency,
+                          double shrink_factor, size_t em_iterations,
+                          const uint8_t *special_text, size_t special_bytes,
+                          const uint32_t *specials, size_t special_numbers,
+                          const uint8_t *text, size_t text_bytes,
+                          const uint32_t *words, size_t word_numbers,
+                          const uint64_t *frequencies, size_t frequency_count,
+                          uint32_t *kept, size_t kept_slots,
+                          uint64_t *counts, size_t count_slots,
+                          uint32_t *table, size_t table_slots,
+                          uint32_t *chars, size_t char_slots,
+                          uint32_t *places, size_t place_slots,
+                          uint32_t *order, size_t order_slots,
+                          uint32_t *work, size_t work_slots,
+                          uint64_t *ranks, size_t rank_slots,
+                          uint32_t *pieces, size_t piece_slots,
+                          uint64_t *tallies, size_t tally_slots,
+                          double *scores, size_t score_slots,
+                          double *expected, size_t expected_slots,
+                          uint64_t *keys, size_t key_slots,
+                          uint32_t *ends, size_t end_slots,
+                          uint32_t *offsets, size_t offset_slots,
+                          uint32_t *starts, size_t start_slots,
+                          uint32_t *ids, size_t id_slots,
+                          uint32_t *spans, size_t span_slots,
+                          uint8_t *bytes, size_t byte_slots,
+                          uint32_t *tokens, size_t token_slots,
+                          double *token_scores, size_t token_score_slots,
+                          uint64_t *told, size_t told_slots);
 
 #ifdef __cplusplus
 }

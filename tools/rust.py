@@ -19,11 +19,14 @@
                                                          needs tools/native-staticlib bench_cuts too
     python3 tools/rust.py bench-seed [--library FILE] [--rounds N]
                                                          the same of seed lists; it needs bench_seed as seeds does
+    python3 tools/rust.py bench-train [--library FILE] [--rounds N]
+                                                         the same of training, which is compared bit for bit
     python3 tools/rust.py filter                         the reference as a filter
 
 The library is the static library with the proved code, which
 tools/native-staticlib export writes. It is looked for in target/ if none is
-named. The Rust original is compiled from the folder that SPLINTR_SRC names, as
+named. That of training, which tools/native-staticlib export_train writes, is
+looked for there. The Rust original is compiled from the folder that SPLINTR_SRC names, as
 tools/oracle/README.md says. Other arguments go to the tool.
 """
 
@@ -42,7 +45,7 @@ RUSTC = ["rustc", "--edition", "2021", "-C", "opt-level=3", "-D", "warnings"]
 # bindings/rust, the Rust original too. More libraries of proved code follow by
 # name. A source in a folder tests/ is a program of tests.
 ALONE, PROVED, ORIGINAL = range(3)
-BINDINGS = [f"bindings/rust/{name}.rs" for name in ("tests/lattices", "tests/cuts", "examples/aba")]
+BINDINGS = [f"bindings/rust/{name}.rs" for name in ("tests/lattices", "tests/cuts", "tests/training", "examples/aba")]
 TOOLS = {
     "bindings": (BINDINGS, PROVED),
     "compare": (["tools/math/compare.rs"], PROVED),
@@ -54,6 +57,7 @@ TOOLS = {
     "bench-lattices": (["tools/bench/lattices.rs"], ORIGINAL),
     "bench-cuts": (["tools/bench/cuts.rs"], ORIGINAL, "bench_cuts"),
     "bench-seed": (["tools/bench/seed.rs"], ORIGINAL, "bench_seed"),
+    "bench-train": (["tools/bench/train.rs"], ORIGINAL),
     "filter": (["tools/math/filter.rs"], ALONE),
 }
 
@@ -92,10 +96,11 @@ def linked(kind, named, more):
     """The arguments that link what a tool of this kind needs, and more libraries by name."""
     arguments = []
     if kind >= PROVED:
-        archive = library(named)
+        archives = [library(named), library(None, "export_train")]
         bindings = OUT / "libcauseylark.rlib"
         rustc(bindings, "bindings/rust/src/lib.rs", "--crate-name", "causeylark", "--crate-type", "rlib")
-        arguments += ["--extern", f"causeylark={bindings}", "-C", f"link-arg={archive}"]
+        arguments += ["--extern", f"causeylark={bindings}"]
+        arguments += [word for archive in archives for word in ("-C", f"link-arg={archive}")]
     if kind >= ORIGINAL:
         arguments += originals()
     return arguments + [word for name in more for word in ("-C", f"link-arg={library(None, name)}")]

@@ -1,5 +1,5 @@
-//! Links libexport.a from the folder that CAUSEYLARK_LIB names, or from target/native of this repository, where
-//! `tools/native-staticlib export` writes it.
+//! Links libexport.a and libexport_train.a from the folder that CAUSEYLARK_LIB names, or from target/native of this
+//! repository, where `tools/native-staticlib export` and `tools/native-staticlib export_train` write them.
 
 use std::env;
 use std::path::Path;
@@ -14,7 +14,9 @@ fn main() {
     };
     let folder = env::var("CAUSEYLARK_LIB").unwrap_or_else(|_| own());
     println!("cargo:rerun-if-env-changed=CAUSEYLARK_LIB");
-    println!("cargo:rerun-if-changed={folder}/libexport.a");
     println!("cargo:rustc-link-search=native={folder}");
-    println!("cargo:rustc-link-lib=static=export");
+    for library in ["export", "export_train"] {
+        println!("cargo:rerun-if-changed={folder}/lib{library}.a");
+        println!("cargo:rustc-link-lib=static={library}");
+    }
 }

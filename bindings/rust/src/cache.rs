@@ -7,7 +7,7 @@ use crate::Refusal;
 pub const PRUNED: u32 = u32::MAX;
 
 /// The most bytes of a text.
-const TEXT_BYTES: usize = 1_048_576;
+pub(crate) const TEXT_BYTES: usize = 1_048_576;
 
 /// An edge of a word's lattice: a piece that spells the characters from `start` up to `end`.
 #[derive(Clone, Copy, Debug, PartialEq, Eq)]

@@ -33,6 +33,18 @@
 //! assert_eq!(cut(16, b"abc", &pieces, &scores), Cut::Refused(Refusal::NoPath));
 //! ```
 //!
+//! Tokens with scores, trained on words with frequencies:
+//!
+//! ```
+//! use causeylark::{train, Settings};
+//!
+//! let settings = Settings { vocab_size: 4, ..Settings::default() };
+//! let trained = train(settings, &[(b"aba", 2)], &[b"<pad>"])?;
+//! assert_eq!(trained.tokens[0], (b"<pad>".to_vec(), 0.0));
+//! assert_eq!((trained.tokens.len(), trained.required), (4, 2));
+//! # Ok::<(), causeylark::Refusal>(())
+//! ```
+//!
 //! And the mathematics, of which docs/MATH.md fixes every bit: [`exp`], [`ln`], [`ln_1p`].
 #![warn(missing_docs)]
 
@@ -41,10 +53,12 @@ mod cache;
 mod cuts;
 mod refusal;
 pub mod slices;
+mod train;
 
 pub use cache::{Cache, Edge, Lattice, PRUNED};
 pub use cuts::{cut, Cut, Expectations};
 pub use refusal::Refusal;
+pub use train::{train, Settings, Trained};
 
 /// e^x.
 pub fn exp(x: f64) -> f64 {

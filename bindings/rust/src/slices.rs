@@ -1,8 +1,8 @@
-//! The calls of lattices and of cuts over lent slices, as they are, and safe: for those who keep
-//! their own tables. include/causeylark.h says what each slice holds. [`Cache`](crate::Cache) and
-//! [`Lattice`](crate::Lattice) lend them for everyone else.
+//! The calls of lattices, of cuts and of training over lent slices, as they are, and safe: for those
+//! who keep their own tables. include/causeylark.h says what each slice holds. [`Cache`](crate::Cache),
+//! [`Lattice`](crate::Lattice) and [`train`](crate::train()) lend them for everyone else.
 
-use crate::{c, Refusal};
+use crate::{c, Refusal, Settings};
 
 /// What a call of lattices reads: words and pieces as spans of their texts.
 #[derive(Clone, Copy, Debug)]
@@ -338,4 +338,161 @@ pub fn cut(
         )
     };
     answer(number, told[0]).map(|count| (sum[0], count))
+}
+
+/// What training reads: settings, specials and words as spans of their texts, and a frequency a word.
+#[derive(Clone, Copy, Debug)]
+pub struct Corpus<'a> {
+    /// How to train.
+    pub settings: Settings,
+    /// The bytes of the specials.
+    pub special_text: &'a [u8],
+    /// Two numbers a special: where its bytes begin in their text, and how many they are.
+    pub specials: &'a [u32],
+    /// The bytes of the words.
+    pub text: &'a [u8],
+    /// Two numbers a word, as for specials.
+    pub words: &'a [u32],
+    /// A number a word, from 1.
+    pub frequencies: &'a [u64],
+}
+
+/// The work slices of training. They may hold anything, and are zero after every call.
+#[derive(Debug)]
+pub struct Training<'a> {
+    /// Two slots a word: the words that are UTF-8.
+    pub kept: &'a mut [u32],
+    /// A slot a word: their frequencies.
+    pub counts: &'a mut [u64],
+    /// Two slots a word.
+    pub table: &'a mut [u32],
+    /// A slot a byte of the text, and of all words together.
+    pub chars: &'a mut [u32],
+    /// Three such slots.
+    pub places: &'a mut [u32],
+    /// Such a slot, and one a piece.
+    pub order: &'a mut [u32],
+    /// Such a slot, and one a piece.
+    pub work: &'a mut [u32],
+    /// Such a slot, and one a piece.
+    pub ranks: &'a mut [u64],
+    /// Two slots a piece.
+    pub pieces: &'a mut [u32],
+    /// A slot a piece.
+    pub tallies: &'a mut [u64],
+    /// A slot a piece.
+    pub scores: &'a mut [f64],
+    /// A slot a piece.
+    pub expected: &'a mut [f64],
+    /// The trie's places.
+    pub keys: &'a mut [u64],
+    /// The trie's places.
+    pub ends: &'a mut [u32],
+    /// n + 2 a word.
+    pub offsets: &'a mut [u32],
+    /// An edge each.
+    pub starts: &'a mut [u32],
+    /// An edge each.
+    pub ids: &'a mut [u32],
+    /// Four numbers a word.
+    pub spans: &'a mut [u32],
+}
+
+/// The results of training.
+#[derive(Debug)]
+pub struct Tokens<'a> {
+    /// The bytes of all tokens, one after the other.
+    pub bytes: &'a mut [u8],
+    /// Two numbers a token: where its bytes begin, and how many they are.
+    pub spans: &'a mut [u32],
+    /// A score a token.
+    pub scores: &'a mut [f64],
+}
+
+/// What training tells beside its tokens.
+#[derive(Clone, Copy, Debug, PartialEq, Eq)]
+pub struct Told {
+    /// How many tokens there are, specials among them.
+    pub tokens: usize,
+    /// How many pieces are required: those of one character.
+    pub required: usize,
+    /// Whether training stopped over target.
+    pub stalled: bool,
+}
+
+/// Trains on words. The tokens stand in front of the results, specials first.
+pub fn train(corpus: Corpus<'_>, work: Training<'_>, tokens: Tokens<'_>) -> Result<Told, Refusal> {
+    let settings = corpus.settings;
+    let mut told = [0; 3];
+    // SAFETY: each pointer and count is a slice, and no two that are written to overlap.
+    let number = unsafe {
+        c::causeylark_train(
+            settings.vocab_size,
+            u32::from(settings.seed_size.is_some()),
+            settings.seed_size.unwrap_or(0),
+            settings.max_piece_chars,
+            settings.min_frequency,
+            settings.shrink_factor,
+            settings.em_iterations,
+            corpus.special_text.as_ptr(),
+            corpus.special_text.len(),
+            corpus.specials.as_ptr(),
+            corpus.specials.len(),
+            corpus.text.as_ptr(),
+            corpus.text.len(),
+            corpus.words.as_ptr(),
+            corpus.words.len(),
+            corpus.frequencies.as_ptr(),
+            corpus.frequencies.len(),
+            work.kept.as_mut_ptr(),
+            work.kept.len(),
+            work.counts.as_mut_ptr(),
+            work.counts.len(),
+            work.table.as_mut_ptr(),
+            work.table.len(),
+            work.chars.as_mut_ptr(),
+            work.chars.len(),
+            work.places.as_mut_ptr(),
+            work.places.len(),
+            work.order.as_mut_ptr(),
+            work.order.len(),
+            work.work.as_mut_ptr(),
+            work.work.len(),
+            work.ranks.as_mut_ptr(),
+            work.ranks.len(),
+            work.pieces.as_mut_ptr(),
+            work.pieces.len(),
+            work.tallies.as_mut_ptr(),
+            work.tallies.len(),
+            work.scores.as_mut_ptr(),
+            work.scores.len(),
+            work.expected.as_mut_ptr(),
+            work.expected.len(),
+            work.keys.as_mut_ptr(),
+            work.keys.len(),
+            work.ends.as_mut_ptr(),
+            work.ends.len(),
+            work.offsets.as_mut_ptr(),
+            work.offsets.len(),
+            work.starts.as_mut_ptr(),
+            work.starts.len(),
+            work.ids.as_mut_ptr(),
+            work.ids.len(),
+            work.spans.as_mut_ptr(),
+            work.spans.len(),
+            tokens.bytes.as_mut_ptr(),
+            tokens.bytes.len(),
+            tokens.spans.as_mut_ptr(),
+            tokens.spans.len(),
+            tokens.scores.as_mut_ptr(),
+            tokens.scores.len(),
+            told.as_mut_ptr(),
+            told.len(),
+        )
+    };
+    answer(number, told[0]).map(|tokens| Told {
+        tokens,
+        required: told[1] as usize,
+        stalled: told[2] == 1,
+    })
 }

@@ -224,7 +224,7 @@ fn told_is_as_long_as_the_caller_likes() {
 #[test]
 fn a_refusal_is_a_sentence() {
     let said = Refusal::BadWord(12).to_string();
-    assert_eq!(said, "BadWord, number 3, at place 12: word 12 is over 255 bytes, outside the text, or not UTF-8.");
+    assert_eq!(said, "BadWord, number 3, at place 12: word 12 is over 255 bytes, outside the text, not UTF-8 where it has to be, or of frequency 0.");
     for refusal in [
         Refusal::NoRoom(0),
         Refusal::NoRoom(2),

@@ -1,5 +1,5 @@
-//! The Rust of the source as a library: its trie, its builder, its cache, its cuts and its seed list, for tools that compare
-//! with them or measure them in one program. README.md says what is compiled.
+//! The Rust of the source as a library: its trie, its builder, its cache, its cuts, its seed list and its training, for tools that
+//! compare with them or measure them in one program. README.md says what is compiled.
 
 #[cfg(mathematics = "ours")]
 #[allow(dead_code)]
@@ -130,7 +130,7 @@ impl Word {
     }
 }
 
-/// The settings that a seed list depends on.
+/// The settings that a seed list depends on; the others are the defaults.
 pub struct Trainer(UnigramTrainer);
 
 /// Each piece with its count, the scores, and how many pieces are required.
@@ -148,5 +148,12 @@ impl Trainer {
 
     pub fn seed(&self, words: &[(&str, u64)]) -> Seeded {
         self.0.seeded(words)
+    }
+
+    /// The tokens and their scores, with the default shrink factor and EM; none where training is refused.
+    pub fn train(&self, words: &[(&str, u64)]) -> Option<(Vec<String>, Vec<f64>)> {
+        let counted = |&(word, frequency): &(&str, u64)| (word.as_bytes().to_vec(), frequency);
+        let words = corpus::WordCounts(words.iter().map(counted).collect());
+        self.0.train(&words).ok().map(|vocabulary| vocabulary.into_parts())
     }
 }
