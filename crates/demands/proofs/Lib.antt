@@ -1,0 +1,4 @@
+pub mod NoSecond
+pub mod Rows
+pub mod Rounds
+pub mod Demands
