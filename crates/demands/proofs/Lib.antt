@@ -2,3 +2,4 @@ pub mod NoSecond
 pub mod Rows
 pub mod Rounds
 pub mod Demands
+pub mod Examples
