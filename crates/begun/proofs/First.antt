@@ -16,7 +16,7 @@ use Rattle.lattice.specs.Written.{over, Begins}
 use Rattle.inputs.specs.Inputs as inputs
 use Rattle.inputs.specs.declared.Checked.the-variants.{Fine, Refused as NotFine}
 use Rattle.inputs.proofs.Theorems.{one-answer}
-use Rattle.start.specs.Start.{Lent, Work, Left, Given, corpus}
+use Rattle.listing.specs.Start.{Lent, Work, Left, Given, corpus}
 use Rattle.fresh.specs.Slots.{filled, Holds}
 use Rattle.fresh.specs.Build as fresh
 use Rattle.fresh.specs.Steps.{InOrder, Follows}

@@ -19,7 +19,7 @@ use Rattle.ranking.specs.Scores.{seedScore, seedTotal, seedScores}
 use Rattle.ranking.proofs.Theorems.{uncut-unique}
 use Rattle.lattice.specs.Pieces.{Distinct}
 use Rattle.inputs.specs.Inputs.{Once}
-use Rattle.start.specs.Start.{Lent, Work, Left, Given, corpus, pool, slots}
+use Rattle.listing.specs.Start.{Lent, Work, Left, Given, corpus, pool, slots}
 use Rattle.trie.proofs.Same.{length-first}
 use Rattle.fresh.specs.Build.{smaller}
 use Rattle.fresh.proofs.Building.{smaller-is}

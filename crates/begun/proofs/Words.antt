@@ -11,8 +11,8 @@ use Rattle.corpus.proofs.Chosen.{chosen-few}
 use Rattle.corpus.proofs.Keeps.{spans-long, frequencies-long}
 use Rattle.corpus.proofs.Theorems.{counts-front, kept-corpus, ready}
 use Rattle.ranking.proofs.Lists.{map-join, map-map}
-use Rattle.start.specs.Start.{Lent, Work, Left, Given, corpus}
-use Rattle.start.proofs.Words.{cut-many, cut-good, cut-words}
+use Rattle.listing.specs.Start.{Lent, Work, Left, Given, corpus}
+use Rattle.listing.proofs.Words.{cut-many, cut-good, cut-words}
 use Rattle.trie.proofs.Same.{length-first}
 use Rattle.fresh.proofs.Most.{chars-few}
 use Rattle.model.proofs.Nodes.{first-at}

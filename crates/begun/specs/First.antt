@@ -9,7 +9,7 @@ use Rattle.settings.specs.Settings.{targetOf}
 use Rattle.ranking.specs.Corpus.{Corpus}
 use Rattle.ranking.specs.Seed.{counts}
 use Rattle.ranking.specs.Scores.{seedScores}
-use Rattle.start.specs.Start.{Lent, Left, corpus}
+use Rattle.listing.specs.Start.{Lent, Left, corpus}
 use Rattle.fresh.specs.Build as fresh
 use Rattle.model.specs.Model.{Model, Task, lattices}
 use Rattle.model.specs.Nodes.{nodes}

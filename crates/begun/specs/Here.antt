@@ -4,9 +4,9 @@ use mathlib.Core.List.{List, _++_}
 use Prim.Native.Nat.{ℕ}
 use lib.Ieee.{Float}
 use Rattle.settings.specs.declared.Settings.{Settings}
-use Rattle.start.specs.Start as start
-use Rattle.start.specs.declared.Started.{Started}
-use Rattle.start.specs.declared.Started.the-variants.{Seeded}
+use Rattle.listing.specs.Start as start
+use Rattle.listing.specs.declared.Started.{Started}
+use Rattle.listing.specs.declared.Started.the-variants.{Seeded}
 
 -- ---- the seed list, which crate start leaves in slices; the slice of scores goes on behind what start was lent of it
 pub record Begun (x : start.Lent) (w : start.Work) (kept counts pieces : List ℕ) (scores : List Float) (r : Started) : Type 0 where

@@ -3,10 +3,10 @@
 // Training makes the list in slices that it is lent, and gives no more of it than its tokens. So this is no part of the library
 // that others link, and include/causeylark.h does not declare it. It promises nothing but that it is safe: what a seed list is,
 // and which refusal comes when, `start::start` says, which this calls as it is.
+use listing::Started;
 use refusal::Refusal;
 use settings::SeedSize;
 use settings::Settings;
-use start::Started;
 
 // The seed's size, which is set where the flag is not 0.
 fn seed_size(flag: u32, seed: usize) -> SeedSize {

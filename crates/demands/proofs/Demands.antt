@@ -19,7 +19,7 @@ use Rattle.lattice.specs.Lattice.{Edge}
 use Rattle.lattice.specs.Pieces.{Distinct}
 use Rattle.lattice.specs.Pruning.{Prunings, survivorsOf}
 use Rattle.trie.proofs.Same.{length-first}
-use Rattle.start.specs.Start as start
+use Rattle.listing.specs.Start as start
 use Rattle.fresh.specs.Build as fresh
 use Rattle.fresh.specs.declared.Built.{Built}
 use Rattle.fresh.specs.declared.Built.the-variants.{Edges}

@@ -14,9 +14,9 @@ use Rattle.corpus.specs.declared.Checked.the-variants.{Fine as WordsFine, Refus
 use Rattle.corpus.specs.Check.{InOrder, Why as NotInOrder}
 use Rattle.corpus.proofs.Theorems as words
 use Rattle.ranking.proofs.Theorems.{seeded-unique, uncut-unique}
-use Rattle.start.specs.Start as start
-use Rattle.start.specs.Start.{bad-settings, no-room, bad-words, bad, no-slots}
-use Rattle.start.specs.declared.Started.the-variants.{Refused as Unstarted}
+use Rattle.listing.specs.Start as start
+use Rattle.listing.specs.Start.{bad-settings, no-room, bad-words, bad, no-slots}
+use Rattle.listing.specs.declared.Started.the-variants.{Refused as Unstarted}
 use Rattle.start.proofs.Theorems as starting
 use Rattle.fresh.specs.Build as fresh
 use Rattle.model.specs.Model.{Model, Task}

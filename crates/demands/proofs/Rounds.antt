@@ -9,7 +9,7 @@ use Rattle.settings.proofs.Theorems.{target-bound, pool-bound}
 use Rattle.lattice.specs.Lattice.{Edge, cache}
 use Rattle.lattice.specs.Pieces.{Distinct}
 use Rattle.lattice.specs.Pruning.{retained, gone}
-use Rattle.start.specs.Start as start
+use Rattle.listing.specs.Start as start
 use Rattle.model.specs.Model.{Model, Task, lattices, improved, prunedTo, remapTo, keepNext, rounds}
 use Rattle.model.specs.Loop.{Sound, next, Reaches, here as arrived, further as onward}
 use Rattle.model.proofs.Kept.{improved-pieces, improved-sound, improved-distinct, pruned-lattices}

@@ -9,8 +9,8 @@ use Rattle.settings.specs.Check as settings
 use Rattle.settings.specs.Check.{bad-vocab, bad-seed, bad-length, bad-em, bad-specials}
 use Rattle.corpus.specs.Check as words
 use Rattle.corpus.specs.Check.{bad-word, repeated, too-heavy, empty}
-use Rattle.start.specs.Start as start
-use Rattle.start.specs.Start.{bad-settings, no-room, bad-words, bad, no-slots}
+use Rattle.listing.specs.Start as start
+use Rattle.listing.specs.Start.{bad-settings, no-room, bad-words, bad, no-slots}
 use Rattle.fresh.specs.Build as fresh
 use Rattle.model.specs.Model.{Model, Task}
 use Rattle.begun.specs.First.{Unlaid, no-trie, no-cache}

@@ -14,7 +14,7 @@ ghost use mathlib.Core.Path.{_≡_};
 ghost use Prim.Native.Nat.{_*_};
 ghost use lib.ListN.{set, take};
 ghost use Rattle.refusal.specs.Numbers.{numberOf, placeOf};
-ghost use Rattle.start.specs.Start.{countOf};
+ghost use Rattle.listing.specs.Start.{countOf};
 ghost use Rattle.make.specs.declared.Trained as TrainedOf;
 ghost use Rattle.training.specs.Train.{Answers, Zeros};
 ghost use Rattle.export_train.specs.Told.{seedSize, flagOf, acceptedTold, trainedNumber, trainedTold};

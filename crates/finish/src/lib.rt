@@ -1,8 +1,8 @@
 // What follows a start, if there is a seed list: the tokens, or a refusal; and zeros in the work slices of it. "Work slices hold
 // zeros after every call, accepted or refused".
+use listing::Started;
 use make::Trained;
 use settings::Settings;
-use start::Started;
 ghost use mathlib.Core.Path.{_≡_};
 ghost use lib.ListN.{length, replicate};
 ghost use Rattle.finish.specs.Steps.{nought, GoingOn, GoesOn};

@@ -16,7 +16,7 @@ use Rattle.utf8.specs.Encode.{spelling}
 use Rattle.spans.specs.Spans.{many, octets, charsAt, first, listed}
 use Rattle.spans.specs.Check.{AllGood}
 use Rattle.trie.proofs.Same.{length-first}
-use Rattle.start.specs.Start as start
+use Rattle.listing.specs.Start as start
 use Rattle.fresh.specs.Build as fresh
 use Rattle.model.specs.Model.{Model, Task, trained, stalled}
 use Rattle.model.proofs.Theorems.{trained-pieces, rounds-fewer}

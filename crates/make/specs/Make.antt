@@ -8,7 +8,7 @@ use Rattle.refusal.specs.declared.Refusal.{Refusal}
 use Rattle.refusal.specs.declared.Refusal.the-variants.{NoRoom, VocabTooSmall}
 use Rattle.utf8.specs.Encode.{spelling}
 use Rattle.spans.specs.Spans.{many}
-use Rattle.start.specs.Start as start
+use Rattle.listing.specs.Start as start
 use Rattle.fresh.specs.Build as fresh
 use Rattle.model.specs.Model.{Model, lattices, trained, stalled}
 use Rattle.begun.specs.First.{firstModel, targetIn, taskOf, TrieFits, Unlaid}

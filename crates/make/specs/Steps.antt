@@ -6,7 +6,7 @@ use lib.Dec.{ltb}
 use lib.Ieee.{Float}
 use Rattle.refusal.specs.declared.Refusal.the-variants.{NoRoom}
 use Rattle.settings.specs.declared.Settings.{Settings}
-use Rattle.start.specs.Start as start
+use Rattle.listing.specs.Start as start
 use Rattle.fresh.specs.Build as fresh
 use Rattle.begun.specs.First.{seedTexts}
 use Rattle.begun.specs.Here.{Here, lentOf}

@@ -1,8 +1,8 @@
 // The call of `start`, with as much of each table as a case lends, and what it answers in numbers.
 use crate::gather::Case;
 use crate::gather::settings;
+use listing::Started;
 use refusal::Refusal;
-use start::Started;
 ghost use Prim.Native.Nat.{_≤_};
 
 // The refusal's number or 0, and the refusal's place; how many pieces there are, and how many are required.

@@ -11,7 +11,7 @@ use Rattle.spans.specs.Spans.{listed}
 use Rattle.lattice.specs.Lattice.{cache}
 use Rattle.ranking.specs.Seed.{counts}
 use Rattle.ranking.specs.Scores.{seedScores}
-use Rattle.start.specs.Start as start
+use Rattle.listing.specs.Start as start
 use Rattle.fresh.specs.Build as fresh
 use Rattle.fresh.specs.Steps.{InOrder, Follows}
 use Rattle.fresh.specs.declared.Built.{Built}

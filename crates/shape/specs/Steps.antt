@@ -4,7 +4,7 @@ use mathlib.Core.List.{List}
 use Prim.Native.Nat.{ℕ, _≤_}
 use lib.Ieee.{Float}
 use Rattle.settings.specs.declared.Settings.{Settings}
-use Rattle.start.specs.Start as start
+use Rattle.listing.specs.Start as start
 use Rattle.fresh.specs.Build as fresh
 use Rattle.model.specs.Model.{Model, Task, lattices, trained}
 use Rattle.rounds.specs.Steps.{Left}

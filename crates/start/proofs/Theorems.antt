@@ -13,9 +13,9 @@ use Rattle.corpus.specs.Check.{InOrder, Why as BadWords}
 use Rattle.corpus.proofs.Theorems as words
 use Rattle.ranking.proofs.Theorems.{uncut-unique}
 use Rattle.seed.proofs.Theorems as seed
-use Rattle.start.specs.Start.{Lent, Work, Left, Room, Bad, bad-settings, no-room, bad-words, Fit, Why, bad, no-slots, Given, Answers}
-use Rattle.start.specs.declared.Started.{Started}
-use Rattle.start.specs.declared.Started.the-variants.{Seeded, Refused as Denied}
+use Rattle.listing.specs.Start.{Lent, Work, Left, Room, Bad, bad-settings, no-room, bad-words, Fit, Why, bad, no-slots, Given, Answers}
+use Rattle.listing.specs.declared.Started.{Started}
+use Rattle.listing.specs.declared.Started.the-variants.{Seeded, Refused as Denied}
 
 module _ (x : Lent) where
   one-setting : {r s : Refusal} → BadSettings (x .settings) (x .texts) (x .specials) r → BadSettings (x .settings) (x .texts) (x .specials) s → r ≡ s

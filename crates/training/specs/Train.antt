@@ -7,7 +7,7 @@ use lib.ListN.{length, take, replicate}
 use lib.Ieee.{Float}
 use Rattle.refusal.specs.declared.Refusal.{Refusal}
 use Rattle.ranking.specs.Seed.{Uncut, Seeded}
-use Rattle.start.specs.Start as start
+use Rattle.listing.specs.Start as start
 use Rattle.fresh.specs.Build as fresh
 use Rattle.make.specs.Make.{Results, Late, Made}
 use Rattle.finish.specs.Steps.{nought}

@@ -2,13 +2,13 @@
 //
 // "Training checks in this order": 2, 7 at 0, 3, 4, 5, 6 and 7 at 1 in `begin`, then 8, 7 at 2, 3 and 4. "Work slices hold
 // zeros after every call, accepted or refused": each stage clears what no later stage needs.
+use listing::Started;
 use make::Trained;
 use settings::Settings;
-use start::Started;
 ghost use mathlib.Core.Path.{_≡_};
 ghost use Prim.Native.Nat.{_*_};
 ghost use lib.ListN.{length, take, replicate};
-ghost use Rattle.start.specs.Start.{countOf};
+ghost use Rattle.listing.specs.Start.{countOf};
 ghost use Rattle.fresh.specs.Build.{smaller};
 ghost use Rattle.begun.specs.Here.{Begun};
 ghost use Rattle.training.specs.Train.{Answers, Zeros};

@@ -2,7 +2,7 @@
 use mathlib.Core.Path.{subst}
 use Prim.Native.Nat.{_*_}
 use lib.ListN.{take}
-use Rattle.start.specs.Start.{countOf}
+use Rattle.listing.specs.Start.{countOf}
 use Rattle.training.specs.Train.{Answers}
 use borrow.Author.Needs.{needs}
 use Rattle.export_train.proofs.causeylark_train.Statement.{statement}

@@ -1,13 +1,13 @@
-use Rattle.start.proofs.Checking.{fit, refused, listing, listed}
+use Rattle.listing.proofs.Checking.{fit, refused, listing, listed}
 use borrow.Author.Needs.{needs}
 use Rattle.start.proofs.check_and_list.Statement.{statement}
 use Rattle.start.proofs.check_and_list.Tie as tie
 use Rattle.start.proofs.check_and_list.Reads as reads
 use Rattle.start.proofs.check_and_list.Lts as lts
 use Rattle.spans.proofs.count.Reads as count-reads
-use Rattle.start.proofs.check.Reads as check-reads
-use Rattle.start.proofs.list.Reads as list-reads
-use Rattle.start.proofs.positions.Reads as positions-reads
+use Rattle.listing.proofs.check.Reads as check-reads
+use Rattle.listing.proofs.list.Reads as list-reads
+use Rattle.listing.proofs.positions.Reads as positions-reads
 
 -- src/lib.rt:223:9
 positions-requires : tie.Need-positions-requires

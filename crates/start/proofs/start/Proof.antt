@@ -1,4 +1,4 @@
-use Rattle.start.specs.Start.{Answers}
+use Rattle.listing.specs.Start.{Answers}
 use lib.ListN.{length, take}
 use lib.Seq.{length-take-le}
 use native.Mathlib.Omega.{arith}
@@ -10,7 +10,7 @@ use Rattle.start.proofs.start.Tie as tie
 use Rattle.start.proofs.start.Reads as reads
 use Rattle.start.proofs.start.Lts as lts
 use Rattle.start.proofs.check_and_list.Reads as check-and-list-reads
-use Rattle.start.proofs.count.Reads as count-reads
+use Rattle.listing.proofs.count.Reads as count-reads
 
 -- src/lib.rt:279:9
 count-requires : tie.Need-count-requires

@@ -1,6 +1,6 @@
 use Rattle.training.proofs.Whole.{in-scores, begins}
 use Rattle.shrink.proofs.Cut.{cut-long}
-use Rattle.start.specs.Start.{countOf, Lent}
+use Rattle.listing.specs.Start.{countOf, Lent}
 use lib.ListN.{take, replicate}
 use Prim.Native.Nat.{ℕ, _*_}
 use mathlib.Core.Path.{ap, _∙_}

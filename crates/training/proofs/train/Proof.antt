@@ -1,7 +1,7 @@
 use Rattle.training.proofs.Whole.{going-on, answers}
 use Rattle.training.specs.Train.{Work}
 use Rattle.make.specs.Make.{Results}
-use Rattle.start.specs.Start.{countOf, Lent}
+use Rattle.listing.specs.Start.{countOf, Lent}
 use Rattle.finish.specs.Steps.{nought}
 use lib.ListN.{take, replicate}
 use Prim.Native.Nat.{ℕ, _*_}

@@ -17,9 +17,9 @@ use Rattle.ranking.specs.Corpus.{Corpus, weight}
 use Rattle.seed.specs.Seed as seed
 use Rattle.seed.specs.declared.Answer.{Answer}
 use Rattle.seed.specs.declared.Answer.the-variants.{Listed, NoRoom}
-use Rattle.start.specs.Start.{positionsOf}
-use Rattle.start.specs.Steps.{Listing}
-use Rattle.start.proofs.Words.{cut-many, cut-good, cut-words, same-weight, kept-bytes}
+use Rattle.listing.specs.Start.{positionsOf}
+use Rattle.listing.specs.Steps.{Listing}
+use Rattle.listing.proofs.Words.{cut-many, cut-good, cut-words, same-weight, kept-bytes}
 
 -- ---- each slice has as many positions as all
 below-left : (m a b : ℕ) → m ≤ min a b → m ≤ a

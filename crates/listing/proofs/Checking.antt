@@ -11,12 +11,12 @@ use Rattle.settings.specs.Check.{InBounds, Answers}
 use Rattle.corpus.specs.declared.Checked.{Checked as WordsChecked}
 use Rattle.corpus.specs.declared.Checked.the-variants.{Fine as WordsFine, Refused as WordsRefused}
 use Rattle.corpus.specs.Check.{Asked, Answers as WordsAnswers}
-use Rattle.start.specs.Start.{Lent, Work, Left, positionsOf, Bounded, Room, slots, Bad, bad-settings, bad-words, Fit, Checks, Why, bad, no-slots, Answers as AllAnswers}
-use Rattle.start.specs.Steps.{Listing, Lists}
-use Rattle.start.specs.declared.Checked.{Checked as AllChecked}
-use Rattle.start.specs.declared.Checked.the-variants.{Fine as AllFine, Refused as AllRefused}
-use Rattle.start.specs.declared.Started.{Started}
-use Rattle.start.specs.declared.Started.the-variants.{Seeded, Refused as Denied}
+use Rattle.listing.specs.Start.{Lent, Work, Left, positionsOf, Bounded, Room, slots, Bad, bad-settings, bad-words, Fit, Checks, Why, bad, no-slots, Answers as AllAnswers}
+use Rattle.listing.specs.Steps.{Listing, Lists}
+use Rattle.listing.specs.declared.Checked.{Checked as AllChecked}
+use Rattle.listing.specs.declared.Checked.the-variants.{Fine as AllFine, Refused as AllRefused}
+use Rattle.listing.specs.declared.Started.{Started}
+use Rattle.listing.specs.declared.Started.the-variants.{Seeded, Refused as Denied}
 
 module _ (x : Lent) (Room : Type 0) where
   pub settings-refused : (r : Checked) (refusal : Refusal) → r ≡ Refused refusal → Answers (x .settings) (x .texts) (x .specials) r → Bad x Room refusal

@@ -1,15 +1,15 @@
-use Rattle.start.specs.Start.{Bounded, no-room}
-use Rattle.start.proofs.Checking.{settings-refused, settings-fine, words-refused, words-fine, words-asked}
+use Rattle.listing.specs.Start.{Bounded, no-room}
+use Rattle.listing.proofs.Checking.{settings-refused, settings-fine, words-refused, words-fine, words-asked}
 use Rattle.laws.proofs.Tests.{said-yes, said-no}
 use borrow.Author.Tests.{not-true, not-false}
 use borrow.Author.Needs.{needs}
-use Rattle.start.proofs.check.Statement.{statement}
-use Rattle.start.proofs.check.Tie as tie
-use Rattle.start.proofs.check.Reads as reads
-use Rattle.start.proofs.check.Lts as lts
+use Rattle.listing.proofs.check.Statement.{statement}
+use Rattle.listing.proofs.check.Tie as tie
+use Rattle.listing.proofs.check.Reads as reads
+use Rattle.listing.proofs.check.Lts as lts
 use Rattle.corpus.proofs.check.Reads as check-reads
 use Rattle.settings.proofs.check.Reads as check-reads′
-use Rattle.start.proofs.bounded.Reads as bounded-reads
+use Rattle.listing.proofs.bounded.Reads as bounded-reads
 
 -- src/lib.rt:128:11
 check-requires : tie.Need-check-requires

@@ -1,12 +1,12 @@
-use Rattle.start.proofs.Bytes.{Summed, summed-none, summed-more, summed-all}
+use Rattle.listing.proofs.Bytes.{Summed, summed-none, summed-more, summed-all}
 use native.Mathlib.Omega.{arith}
 use Prim.Native.Nat.{_-_}
-use Rattle.start.proofs.all_bytes.Statement.{statement}
-use Rattle.start.proofs.all_bytes.Tie as tie
-use Rattle.start.proofs.all_bytes.Reads as reads
-use Rattle.start.proofs.all_bytes.Lts as lts
+use Rattle.listing.proofs.all_bytes.Statement.{statement}
+use Rattle.listing.proofs.all_bytes.Tie as tie
+use Rattle.listing.proofs.all_bytes.Reads as reads
+use Rattle.listing.proofs.all_bytes.Lts as lts
 use Rattle.spans.proofs.count.Reads as count-reads
-use Rattle.start.proofs.long.Reads as long-reads
+use Rattle.listing.proofs.long.Reads as long-reads
 
 abbrev Inv-loop : tie.InvT-loop
 Inv-loop words many sum₀ k₀ sum k = Summed words k sum

@@ -1,4 +1,4 @@
-use Rattle.start.proofs.Listing.{few, spans-in, counts-in, asked, exceeds, lists}
+use Rattle.listing.proofs.Listing.{few, spans-in, counts-in, asked, exceeds, lists}
 use Rattle.settings.specs.Settings.{targetOf, poolOf}
 use Rattle.seed.specs.Seed.{slotsOf}
 use lib.Seq.{length-take-le}
@@ -6,10 +6,10 @@ use native.Mathlib.Omega.{arith}
 use Prim.Native.Nat.{_*_}
 use mathlib.Core.Path.{refl, sym, ap, _∙_}
 use borrow.Author.Needs.{needs}
-use Rattle.start.proofs.list.Statement.{statement}
-use Rattle.start.proofs.list.Tie as tie
-use Rattle.start.proofs.list.Reads as reads
-use Rattle.start.proofs.list.Lts as lts
+use Rattle.listing.proofs.list.Statement.{statement}
+use Rattle.listing.proofs.list.Tie as tie
+use Rattle.listing.proofs.list.Reads as reads
+use Rattle.listing.proofs.list.Lts as lts
 use Rattle.corpus.proofs.utf8_words.Reads as utf8-words-reads
 use Rattle.seed.proofs.seed.Reads as seed-reads
 use Rattle.settings.proofs.Settings.pool.Reads as pool-reads

@@ -11,9 +11,9 @@ use Rattle.settings.specs.Settings.{targetOf, poolOf}
 use Rattle.corpus.specs.Check.{InOrder}
 use Rattle.corpus.specs.Kept.{corpusOf, Kept}
 use Rattle.seed.specs.Seed.{Lists as SeedLists, Exceeds}
-use Rattle.start.specs.Start.{Left, positionsOf, Bounded}
-use Rattle.start.specs.declared.Started.{Started}
-use Rattle.start.specs.declared.Started.the-variants.{Seeded, Refused}
+use Rattle.listing.specs.Start.{Left, positionsOf, Bounded}
+use Rattle.listing.specs.declared.Started.{Started}
+use Rattle.listing.specs.declared.Started.the-variants.{Seeded, Refused}
 
 -- what was checked, as the list needs it; the table is no part of it any more
 pub record Listing (settings : Settings) (text words frequencies kept counts chars places order work ranks : List ℕ) : Type 0 where

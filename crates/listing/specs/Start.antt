@@ -15,10 +15,10 @@ use Rattle.corpus.specs.Check.{InOrder, Why as BadWords}
 use Rattle.corpus.specs.Kept.{corpusOf, Kept}
 use Rattle.ranking.specs.Corpus.{Corpus}
 use Rattle.seed.specs.Seed.{slotsOf, Lists as SeedLists, Exceeds}
-use Rattle.start.specs.declared.Checked.{Checked}
-use Rattle.start.specs.declared.Checked.the-variants.{Fine, Refused as Denied}
-use Rattle.start.specs.declared.Started.{Started}
-use Rattle.start.specs.declared.Started.the-variants.{Seeded, Refused}
+use Rattle.listing.specs.declared.Checked.{Checked}
+use Rattle.listing.specs.declared.Checked.the-variants.{Fine, Refused as Denied}
+use Rattle.listing.specs.declared.Started.{Started}
+use Rattle.listing.specs.declared.Started.the-variants.{Seeded, Refused}
 
 -- a word has two numbers and a frequency; the shorter list counts
 abbrev pub countOf : List ℕ → List ℕ → ℕ

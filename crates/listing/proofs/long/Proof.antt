@@ -2,10 +2,10 @@ use Prim.Native.Nat.{_+_, _*_}
 use native.Mathlib.Omega.{arith}
 use mathlib.Core.Path.{refl}
 use borrow.Author.Needs.{needs}
-use Rattle.start.proofs.long.Statement.{statement}
-use Rattle.start.proofs.long.Tie as tie
-use Rattle.start.proofs.long.Reads as reads
-use Rattle.start.proofs.long.Lts as lts
+use Rattle.listing.proofs.long.Statement.{statement}
+use Rattle.listing.proofs.long.Tie as tie
+use Rattle.listing.proofs.long.Reads as reads
+use Rattle.listing.proofs.long.Lts as lts
 
 -- src/lib.rt:61:11
 mul-result : tie.Need-mul-result

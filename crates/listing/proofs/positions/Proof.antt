@@ -3,11 +3,11 @@ use lib.ListN.{length}
 use mathlib.Core.Path.{ap, _∙_}
 use native.Mathlib.Omega.{arith}
 use borrow.Author.Needs.{needs}
-use Rattle.start.proofs.positions.Statement.{statement}
-use Rattle.start.proofs.positions.Tie as tie
-use Rattle.start.proofs.positions.Reads as reads
-use Rattle.start.proofs.positions.Lts as lts
-use Rattle.start.proofs.smaller.Reads as smaller-reads
+use Rattle.listing.proofs.positions.Statement.{statement}
+use Rattle.listing.proofs.positions.Tie as tie
+use Rattle.listing.proofs.positions.Reads as reads
+use Rattle.listing.proofs.positions.Lts as lts
+use Rattle.listing.proofs.smaller.Reads as smaller-reads
 
 -- src/lib.rt:52:39
 smaller-requires : tie.Need-smaller-requires

@@ -1,13 +1,13 @@
-use Rattle.start.specs.Start.{Bounded}
+use Rattle.listing.specs.Start.{Bounded}
 use Rattle.laws.proofs.Tests.{says-le}
 use native.Mathlib.Omega.{arith}
 use borrow.Author.Needs.{needs}
-use Rattle.start.proofs.bounded.Statement.{statement}
-use Rattle.start.proofs.bounded.Tie as tie
-use Rattle.start.proofs.bounded.Reads as reads
-use Rattle.start.proofs.bounded.Lts as lts
+use Rattle.listing.proofs.bounded.Statement.{statement}
+use Rattle.listing.proofs.bounded.Tie as tie
+use Rattle.listing.proofs.bounded.Reads as reads
+use Rattle.listing.proofs.bounded.Lts as lts
 use Rattle.spans.proofs.count.Reads as count-reads
-use Rattle.start.proofs.all_bytes.Reads as all-bytes-reads
+use Rattle.listing.proofs.all_bytes.Reads as all-bytes-reads
 
 -- src/lib.rt:90:9
 count-requires : tie.Need-count-requires

@@ -1,0 +1,4 @@
+pub mod Bytes
+pub mod Checking
+pub mod Words
+pub mod Listing
