@@ -94,26 +94,26 @@ def build_archive(crate, say):
         teller.join()
 
 
-def link():
-    """Makes the shared library of the archives. It appears whole, so two that build at once do not meet."""
+def link(shared, crates):
+    """Makes a shared library of the crates' archives. It appears whole, so two that build at once do not meet."""
     if not shutil.which("cc"):
         raise Unavailable("the library has to be linked once, and there is no `cc`, a C compiler, on the PATH")
-    made = SHARED.with_name(f"{SHARED.name}.{os.getpid()}")
-    archives = [str(archive(crate)) for crate in CRATES]
+    made = shared.with_name(f"{shared.name}.{os.getpid()}")
+    archives = [str(archive(crate)) for crate in crates]
     run(["cc", "-shared", "-o", str(made), "-Wl,--whole-archive", *archives, "-Wl,--no-whole-archive"], "linking by cc")
-    os.replace(made, SHARED)
+    os.replace(made, shared)
 
 
-def ready(say):
+def ready(say, shared, crates):
     """Builds what is missing or older than the code it is made from. `say` is told what is going on."""
-    stale = [crate for crate in CRATES if age(archive(crate)) <= newest_source(crate)]
+    stale = [crate for crate in crates if age(archive(crate)) <= newest_source(crate)]
     if stale:
         say("building the library, once; where no crate is proved yet, that takes many minutes", True)
     for crate in stale:
         build_archive(crate, say)
-    if age(SHARED) <= max(age(archive(crate)) for crate in CRATES):
-        link()
-        say(f"built {SHARED.relative_to(ROOT)}", True)
+    if age(shared) <= max(age(archive(crate)) for crate in crates):
+        link(shared, crates)
+        say(f"built {shared.relative_to(ROOT)}", True)
 
 
 def slices(*types):
@@ -121,7 +121,7 @@ def slices(*types):
     return [word for of in types for word in (ctypes.POINTER(of), SIZE)]
 
 
-# The functions that are called, as include/causeylark.h declares them.
+# The functions that causeylark.py calls, as include/causeylark.h declares them.
 DECLARED = {
     "causeylark_utf8_valid_up_to": (SIZE, slices(BYTES)),
     "causeylark_cut": (U32, [SIZE, *slices(BYTES, BYTES, U32, F64, U32, U64, U32, U32, F64, U64)]),
@@ -140,14 +140,14 @@ DECLARED = {
 }
 
 
-def load(say=lambda *_: None):
-    """The shared library, built if need be, with its functions declared."""
-    ready(say)
+def load(say=lambda *_: None, declared=DECLARED, shared=SHARED, crates=CRATES):
+    """The shared library of these crates, built if need be, with its functions declared."""
+    ready(say, shared, crates)
     try:
-        library = ctypes.CDLL(str(SHARED))
-        for name, (answer, arguments) in DECLARED.items():
+        library = ctypes.CDLL(str(shared))
+        for name, (answer, arguments) in declared.items():
             function = getattr(library, name)
             function.restype, function.argtypes = answer, arguments
     except (OSError, AttributeError) as reason:
-        raise Unavailable(f"{SHARED.relative_to(ROOT)} does not load: {reason}") from reason
+        raise Unavailable(f"{shared.relative_to(ROOT)} does not load: {reason}") from reason
     return library

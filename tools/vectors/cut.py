@@ -1,18 +1,18 @@
 #!/usr/bin/env python3
-"""Writes crates/cut_vectors/stdin, the lattices and scores that the program cut_vectors cuts, and the stdout that it must
-write. The head of crates/cut_vectors/src/main.rt has the grammar of both.
+"""Writes tools/vectors/cut.in, the lattices and scores that tools/replay.py has the library cut, and cut.out, what has to come back.
+The head of `Cut` in tools/replay.py has the grammar of both.
 
     python3 tools/vectors/cut.py            # needs target/oracle/ours/oracle: see tools/oracle/README.md
     python3 tools/vectors/cut.py --check    # writes nothing, and fails where the files in the tree are others
 
-Every path, score, sum and share in stdout is the Rust's with our mathematics: the oracle's answers to `viterbi`,
+Every path, score, sum and share in cut.out is the Rust's with our mathematics: the oracle's answers to `viterbi`,
 `viterbi_excluding`, `connected` and `expectations`. The lattices are those of drawn words of eight scripts over drawn pieces,
 and drawn ones that come from no word. Their scores are of every kind: see `KINDS`. The first cases are document 01's.
 
 The refusals are worked out here, from document 01's table and its "Viterbi checks 9, 10, 7, 11, 12": the Rust has none. So are
 best cuts, by its sentence on ties, and whether there is a cut; where there is an oracle, both have to agree. Where there is
-none, --check takes the sums and the shares from the file, and compares the rest. The last line of stdin breaks the rules of
-frames, and stdout ends with BadFrame at that line."""
+none, --check takes the sums and the shares from the file, and compares the rest. The last line of cut.in breaks the rules of
+frames, and cut.out ends with BadFrame at that line."""
 
 import math
 import random
@@ -20,15 +20,17 @@ import struct
 import sys
 from pathlib import Path
 
-ROOT = Path(__file__).resolve().parents[2]
+VECTORS = Path(__file__).resolve().parent
+ROOT = VECTORS.parents[1]
 sys.path.insert(0, str(ROOT / "tools/oracle"))
-sys.path.insert(0, str(ROOT / "tools/vectors"))
+sys.path.insert(0, str(VECTORS))
 sys.dont_write_bytecode = True
 
 import build  # noqa: E402
 from lattice import frame, lattice, number, offsets_of  # noqa: E402
 from vectors import SCRIPTS, ask, bits, items, line, listed, make_pieces, make_word  # noqa: E402
 
+# What the cases are drawn from. Another text draws others.
 SEED = "cut_vectors 1"
 FAMILIES, FREE = 150, 260
 SETTINGS = (1, 2, 16, 32)
@@ -196,7 +198,7 @@ def texts(cuts, answers):
         answered += lines_out(cut, rust)
     asked.append("4200014A\n")
     answered.append(answer(0x50, (BAD_FRAME, len(asked))))
-    return {"stdin": "".join(asked), "stdout": "".join(answered)}
+    return {"cut.in": "".join(asked), "cut.out": "".join(answered)}
 
 
 # Cases.
@@ -315,11 +317,11 @@ def make_cuts():
     yield from examples()
 
 
-def stored(crate, cuts):
+def stored(cuts):
     """The sums and the shares that the file has, as the oracle would answer them: for a run without one."""
-    lines = crate.joinpath("stdout").read_text().splitlines()[4::5]
+    lines = VECTORS.joinpath("cut.out").read_text().splitlines()[4::5]
     if len(lines) != len(cuts):
-        sys.exit("cut: crates/cut_vectors/stdout has another number of lattices")
+        sys.exit("cut: tools/vectors/cut.out has another number of lattices")
     for cut, text in zip(cuts, lines):
         shares = text[26 : 26 + 16 * len(cut.starts)]
         yield f"{text[8:24]} {listed(shares[at : at + 16] for at in range(0, len(shares), 16))}"
@@ -328,7 +330,7 @@ def stored(crate, cuts):
 def main(arguments):
     if arguments not in ([], ["--check"]):
         sys.exit(__doc__)
-    crate, cuts = ROOT / "crates/cut_vectors", list(make_cuts())
+    cuts = list(make_cuts())
     mine = [own(cut) for cut in cuts]
     oracle = (build.TARGET / "ours" / "oracle").is_file()
     if oracle:
@@ -339,14 +341,14 @@ def main(arguments):
             if said and said != others[:3]:
                 sys.exit(f"cut: document 01 and the Rust differ at {list(asked(cut))}: {said}, {others[:3]}")
     elif arguments:
-        rust = [said and [*said, shares] for said, shares in zip(mine, stored(crate, cuts))]
+        rust = [said and [*said, shares] for said, shares in zip(mine, stored(cuts))]
     else:
         sys.exit("cut: there is no target/oracle/ours/oracle, and the answers are the Rust's: see tools/oracle/README.md")
     for name, text in texts(cuts, rust).items():
         if not arguments:
-            crate.joinpath(name).write_text(text)
-        elif crate.joinpath(name).read_text() != text:
-            sys.exit(f"cut: crates/cut_vectors/{name} is not what tools/vectors/cut.py writes")
+            VECTORS.joinpath(name).write_text(text)
+        elif VECTORS.joinpath(name).read_text() != text:
+            sys.exit(f"cut: tools/vectors/{name} is not what tools/vectors/cut.py writes")
     edges = sum(len(cut.starts) for cut in cuts if cut.sound())
     ties = sum(tied(cut) for cut in cuts if cut.sound())
     refused = sum(cut.refused(*ROOMS[:2]) is not None or cut.refused(*ROOMS[4:]) is not None for cut in cuts)

@@ -1,36 +1,38 @@
 #!/usr/bin/env python3
-"""Writes crates/lattice_vectors/stdin, the caches that the program lattice_vectors builds and prunes, and the stdout that it
-must write. The head of crates/lattice_vectors/src/main.rt has the grammar of both.
+"""Writes tools/vectors/lattice.in, the caches that tools/replay.py has the library build and prune, and lattice.out, what has to
+come back. The head of `Lattice` in tools/replay.py has the grammar of both.
 
     python3 tools/vectors/lattice.py            # needs target/oracle/ours/oracle: see tools/oracle/README.md
     python3 tools/vectors/lattice.py --check    # writes nothing, and fails where the files in the tree are others
 
-Every lattice in stdout is the Rust's: the oracle's answer to one `retain` request a case. The words, pieces and remaps are
+Every lattice in lattice.out is the Rust's: the oracle's answer to one `retain` request a case. The words, pieces and remaps are
 drawn from SEED. The first case is document 01's, aba over a, b, ab, ba, then with b pruned. Half of the drawn cases lend
 exactly the slots that they need, no more.
 
 The refusals are worked out here, from document 01's table and its "Building a cache checks ..": the Rust has none. After each
-the cache is told again, so that stdout shows it unchanged. More than 1,048,576 pieces are not tried: they do not fit the
-program's tables. The last line of stdin breaks the rules of frames, and stdout ends with BadFrame at that line.
+the cache is told again, so that lattice.out shows it unchanged. More than 1,048,576 pieces are not tried: tools/rust.py lattices
+does that. The last line of lattice.in breaks the rules of frames, and lattice.out ends with BadFrame at that line.
 
-The lattices are also made here, by document 01's sentence of when an edge exists. stdin needs the number of edges, and --check
-compares stdout with these where there is no oracle. Where there is one, all three have to agree."""
+The lattices are also made here, by document 01's sentence of when an edge exists. lattice.in needs the number of edges, and --check
+compares lattice.out with these where there is no oracle. Where there is one, all three have to agree."""
 
 import random
 import sys
 from pathlib import Path
 
-ROOT = Path(__file__).resolve().parents[2]
+VECTORS = Path(__file__).resolve().parent
+ROOT = VECTORS.parents[1]
 sys.path.insert(0, str(ROOT / "tools/oracle"))
 sys.dont_write_bytecode = True
 
 import build  # noqa: E402
 from vectors import PRUNED, SCRIPTS, ask, hexed, items, line, listed, make_pieces, make_remap, make_word  # noqa: E402
 
+# What the cases are drawn from. Another text draws others.
 SEED = "lattice_vectors 1"
 CASES = 168
 SETTINGS = (0, 1, 2, 16, 16, 32, 32)
-# The tables of the program, in slots.
+# The slots that a case lends where it does not say.
 ROOM = dict(offsets=32768, starts=32768, ids=32768, spans=65536, keys=16384, ends=16384, table=8192)
 BOUND = 1048576
 # The numbers of document 01's table.
@@ -180,7 +182,7 @@ def lines_out(refusal, cache):
 
 
 def texts(cases, answers):
-    """stdin and stdout. A refused build leaves the cache of the case before."""
+    """What goes in and what comes back. A refused build leaves the cache of the case before."""
     asked, answered, cache = [], [], []
     for case, states in zip(cases, answers, strict=True):
         asked += lines_in(case)
@@ -191,7 +193,7 @@ def texts(cases, answers):
             answered += lines_out(refusal, cache)
     asked.append("2200014A\n")
     answered.append(f"31{BAD_FRAME:02x}{len(asked):08x}\n")
-    return {"stdin": "".join(asked), "stdout": "".join(answered)}
+    return {"lattice.in": "".join(asked), "lattice.out": "".join(answered)}
 
 
 # Cases.
@@ -318,12 +320,11 @@ def main(arguments):
                 sys.exit(f"lattice: document 01 and the Rust differ at {request(case)}")
     elif not arguments:
         sys.exit("lattice: there is no target/oracle/ours/oracle, and the answers are the Rust's: see tools/oracle/README.md")
-    crate = ROOT / "crates/lattice_vectors"
     for name, text in texts(cases, rust if oracle else own).items():
         if not arguments:
-            crate.joinpath(name).write_text(text)
-        elif crate.joinpath(name).read_text() != text:
-            sys.exit(f"lattice: crates/lattice_vectors/{name} is not what tools/vectors/lattice.py writes")
+            VECTORS.joinpath(name).write_text(text)
+        elif VECTORS.joinpath(name).read_text() != text:
+            sys.exit(f"lattice: tools/vectors/{name} is not what tools/vectors/lattice.py writes")
     words = sum(len(states[0]) for states in own if states)
     said = "with the Rust's answers" if oracle else "with no oracle at hand"
     print(f"lattice: {len(cases)} cases, {words} words {'agree' if arguments else 'written'}, {said}")

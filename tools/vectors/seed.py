@@ -1,36 +1,38 @@
 #!/usr/bin/env python3
-"""Writes crates/seed_vectors/stdin, the word lists that the program seed_vectors makes seed lists of, and the stdout that it
-must write. The head of crates/seed_vectors/src/main.rt has the grammar of both.
+"""Writes tools/vectors/seed.in, the word lists that tools/replay.py has the library make seed lists of, and seed.out, what has to
+come back. The head of `Seed` in tools/replay.py has the grammar of both.
 
     python3 tools/vectors/seed.py            # needs target/oracle/ours/oracle: see tools/oracle/README.md
     python3 tools/vectors/seed.py --check    # writes nothing, and fails where the files in the tree are others
 
-Every list in stdout is the Rust's: the oracle's answer to one `seed` request a case. The words and settings are drawn from SEED:
+Every list in seed.out is the Rust's: the oracle's answer to one `seed` request a case. The words and settings are drawn from SEED:
 eight scripts, lengths 0, 1, 2, 3, 16 and 32, minimum 0, 1, 2 and huge, pools smaller and larger than the list. The first cases are
 document 01's, aba of frequency 2 with minimum 2 and 3.
 
 The refusals are worked out here, from document 01's table: the Rust has few of them. Half of the drawn cases lend exactly the
 piece slots that the list needs before its cut, and some lend one less.
 
-The lists are also made here, by document 01's item 8, but for the scores, which need our ln. --check takes those from stdout where
+The lists are also made here, by document 01's item 8, but for the scores, which need our ln. --check takes those from seed.out where
 there is no oracle. Where there is one, all have to agree."""
 
 import random
 import sys
 from pathlib import Path
 
-ROOT = Path(__file__).resolve().parents[2]
+VECTORS = Path(__file__).resolve().parent
+ROOT = VECTORS.parents[1]
 sys.path.insert(0, str(ROOT / "tools/oracle"))
 sys.dont_write_bytecode = True
 
 import build  # noqa: E402
 from vectors import SCRIPTS, ask, hexed, items, line, listed  # noqa: E402
 
+# What the cases are drawn from. Another text draws others.
 SEED = "seed_vectors 1"
 CASES = 560
 LENGTHS = (0, 1, 2, 3, 16, 16, 32)
 MINIMUMS = (0, 1, 2, 2, 3, 2**64 - 1)
-# What the program has room for.
+# The slots that a case lends where it does not say, and how many times the target the seed is where its size is not set.
 PIECES, POSITIONS, MULTIPLE = 1024, 2048, 16
 # The numbers of document 01's table.
 BAD_SETTING, BAD_WORD, REPEATED_WORD, TOO_HEAVY, EMPTY_CORPUS, NO_ROOM = 2, 3, 4, 5, 6, 7
@@ -226,10 +228,10 @@ def make_cases():
         yield drawn(rng, index)
 
 
-def stored(crate):
-    """The scores in stdout, case by case, for where there is no oracle."""
+def stored():
+    """The scores in seed.out, case by case, for where there is no oracle."""
     cases = []
-    for said in crate.joinpath("stdout").read_text().splitlines():
+    for said in VECTORS.joinpath("seed.out").read_text().splitlines():
         if said.startswith("31"):
             cases.append([])
         else:
@@ -240,7 +242,6 @@ def stored(crate):
 def main(arguments):
     if arguments not in ([], ["--check"]):
         sys.exit(__doc__)
-    crate = ROOT / "crates/seed_vectors"
     cases = list(make_cases())
     said = [refusal(case) for case in cases]
     own = [None if no else told(case) for case, no in zip(cases, said)]
@@ -253,16 +254,16 @@ def main(arguments):
             if rust != own[index]:
                 sys.exit(f"seed: document 01 and the Rust differ at {request(cases[index])}")
     elif arguments:
-        scores = stored(crate)
+        scores = stored()
     else:
         sys.exit("seed: there is no target/oracle/ours/oracle, and the answers are the Rust's: see tools/oracle/README.md")
     lines = [line for case in cases for line in lines_in(case)]
     answers = [line for each in zip(cases, said, own, scores, strict=True) for line in lines_out(*each)]
-    for name, text in {"stdin": "".join(lines), "stdout": "".join(answers)}.items():
+    for name, text in {"seed.in": "".join(lines), "seed.out": "".join(answers)}.items():
         if not arguments:
-            crate.joinpath(name).write_text(text)
-        elif crate.joinpath(name).read_text() != text:
-            sys.exit(f"seed: crates/seed_vectors/{name} is not what tools/vectors/seed.py writes")
+            VECTORS.joinpath(name).write_text(text)
+        elif VECTORS.joinpath(name).read_text() != text:
+            sys.exit(f"seed: tools/vectors/{name} is not what tools/vectors/seed.py writes")
     pieces = sum(len(answer[1]) for answer in own if answer)
     done = f"{'agree' if arguments else 'written'}, {'with the Rust' if oracle else 'with no oracle at hand'}"
     print(f"seed: {len(accepted)} lists, {pieces} pieces, {len(cases) - len(accepted)} refused {done}")

@@ -1,4 +1,4 @@
-// The seed list over plain numbers and slices, for tools/seeds and tools/bench/seed.rs to call, and for nothing else.
+// The seed list over plain numbers and slices. tools/seeds, tools/bench/seed.rs and tools/replay.py call it, and nothing else.
 //
 // Training makes the list in slices that it is lent, and gives no more of it than its tokens. So this is no part of the library
 // that others link, and include/causeylark.h does not declare it. It promises nothing but that it is safe: what a seed list is,
