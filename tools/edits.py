@@ -4,8 +4,9 @@
     python3 tools/edits.py [NAME...]        all crates that have such edits, or those named
 
 `rt ci` tries an edit of must-fail/ by checking its whole crate from nothing, which takes as long as proving the crate. So a crate
-with several edits that takes long has them in must-fail/more, and they are tried here, over the kit's incremental folder: the
-crate as it is, which has to be proved, and then each edit, of which only what it changes is checked again.
+that takes long has its edits in must-fail/more, and they are tried here, over the kit's incremental folder. It is filled with what
+the proved crate's library holds of checked modules. First the crate is checked as it is, and has to be proved; then each edit, of
+which only what it changes is checked again. A program has no library, so all of it is checked once.
 
 An edit is written as for `rt`: a line `file: PATH`, then pairs of `old: TEXT` and `new: TEXT`. The old text stands once in the file.
 """
@@ -74,6 +75,20 @@ def make_room(folder):
     (folder / "target/rlib").symlink_to(ROOT / "target/rlib")
 
 
+def checked_folder(room):
+    """The kit names the folder of what is checked after its own build. A check of the first crate, which is small, shows the name."""
+    first = next(line.split(":")[0] for line in (ROOT / "crates.txt").read_text().splitlines() if line and line[0] != "#")
+    check(first, room)
+    return next((room / "target/inc" / first).iterdir()).name
+
+
+def fill(crate, room, folder):
+    """Puts what a crate's library holds of checked modules where the incremental check looks for them."""
+    held = ROOT / "target/rlib" / f"{crate}.rlib/toolchain/checked"
+    if held.is_dir():
+        shutil.copytree(held, room / "target/inc" / crate / folder)
+
+
 def check(crate, room):
     """The prover's word on a crate: its exit status, its last line, the place of its first message, and seconds."""
     began = time.monotonic()
@@ -140,12 +155,15 @@ def main():
 
     def work(room):
         make_room(room)
+        folder = checked_folder(room)
         while True:
             try:
                 crate = waiting.get_nowait()
             except queue.Empty:
                 return
+            fill(crate, room, folder)
             outcomes[crate] = try_crate(crate, room, say)
+            shutil.rmtree(room / "target/inc" / crate)
 
     with tempfile.TemporaryDirectory() as folder:
         workers = [threading.Thread(target=work, args=(Path(folder) / str(k),)) for k in range(min(jobs(), len(named)))]
