@@ -1,15 +1,25 @@
 // The seed list over plain numbers and slices. tools/seeds, tools/bench/seed.rs and tools/replay.py call it, and nothing else.
 //
 // Training makes the list in slices that it is lent, and gives no more of it than its tokens. So this is no part of the library
-// that others link, and include/causeylark.h does not declare it. It promises nothing but that it is safe: what a seed list is,
-// and which refusal comes when, `start::start` says, which this calls as it is.
+// that others link, and include/causeylark.h does not declare it. It answers as the calls of crate `export` do: 0 where there is
+// a list, and else the number of the refusal; in the lent slice `told` stands what more there is to tell. What a seed list is,
+// and which refusal comes when, `start::start` says, and this promises the same of what it is lent.
 use listing::Started;
 use refusal::Refusal;
 use settings::SeedSize;
 use settings::Settings;
+ghost use mathlib.Core.Path.{_≡_};
+ghost use Prim.Native.Nat.{_*_};
+ghost use lib.ListN.{set, take};
+ghost use Rattle.refusal.specs.Numbers.{numberOf, placeOf};
+ghost use Rattle.listing.specs.declared.Started as StartedOf;
+ghost use Rattle.listing.specs.Start.{countOf, Answers};
+ghost use Rattle.bench_seed.specs.Told.{seedSize, settingsOf, seededTold, startedNumber, startedTold};
 
 // The seed's size, which is set where the flag is not 0.
-fn seed_size(flag: u32, seed: usize) -> SeedSize {
+fn seed_size(flag: u32, seed: usize) -> SeedSize
+    ensures { λ r. ⌜ r ≡ seedSize flag seed ⌝ }
+{
     if flag == 0 {
         return SeedSize::Unset;
     }
@@ -24,7 +34,9 @@ fn settings(
     max_piece_chars: usize,
     min_frequency: u64,
     em_iterations: usize,
-) -> Settings {
+) -> Settings
+    ensures { λ r. ⌜ r ≡ settingsOf «vocab_size» flag seed «max_piece_chars» «min_frequency» «em_iterations» ⌝ }
+{
     Settings {
         vocab_size,
         seed_size: seed_size(flag, seed),
@@ -36,14 +48,18 @@ fn settings(
 }
 
 // What there is to tell, at a slot if there is one.
-fn tell(told: &mut [u64], slot: usize, value: u64) {
+fn tell(told: &mut [u64], slot: usize, value: u64)
+    ensures { λ _. ⌜ now (told .exit) ≡ set (now (told .entry)) slot value ⌝ }
+{
     if slot < told.len() {
         told[slot] = value;
     }
 }
 
 // A seed list: 0, and how many words are UTF-8, how many pieces there are, how many of them are required.
-fn seeded(told: &mut [u64], words: usize, pieces: usize, required: usize) -> u32 {
+fn seeded(told: &mut [u64], words: usize, pieces: usize, required: usize) -> u32
+    ensures { λ n. ⌜ (n ≡ 0) × (now (told .exit) ≡ seededTold words pieces required (now (told .entry))) ⌝ }
+{
     tell(told, 0, words as u64);
     tell(told, 1, pieces as u64);
     tell(told, 2, required as u64);
@@ -51,9 +67,25 @@ fn seeded(told: &mut [u64], words: usize, pieces: usize, required: usize) -> u32
 }
 
 // A refusal: its number, and its place.
-fn refused(told: &mut [u64], r: Refusal) -> u32 {
+fn refused(told: &mut [u64], r: Refusal) -> u32
+    ensures { λ n. ⌜ (n ≡ numberOf r) × (now (told .exit) ≡ set (now (told .entry)) 0 (placeOf r)) ⌝ }
+{
     tell(told, 0, refusal::place(r));
     refusal::number(r) as u32
+}
+
+// What `start::start` answered, by numbers.
+fn answered(told: &mut [u64], started: Started) -> u32
+    ensures { λ n. ⌜ (n ≡ startedNumber started) × (now (told .exit) ≡ startedTold started (now (told .entry))) ⌝ }
+{
+    match started {
+        Started::Seeded {
+            words,
+            pieces,
+            required,
+        } => seeded(told, words, pieces, required),
+        Started::Refused(r) => refused(told, r),
+    }
 }
 
 // Answers 0 or the refusal's number. The list is as `start::start` leaves it.
@@ -82,8 +114,10 @@ pub extern "C" fn bench_seed(
     scores: &mut [f64],
     table: &mut [u32],
     told: &mut [u64],
-) -> u32 {
-    match start::start(
+) -> u32
+    ensures { λ number. ⌜ ((r : StartedOf.Started) × Answers (record { settings = settingsOf «vocab_size» flag seed «max_piece_chars» «min_frequency» «em_iterations»; texts = now (texts .entry); specials = now (specials .entry); text = now (text .entry); words = take (2 * (countOf (now (words .entry)) (now (frequencies .entry)))) (now (words .entry)); frequencies = take (countOf (now (words .entry)) (now (frequencies .entry))) (now (frequencies .entry)) }) (record { kept = now (kept .entry); counts = now (counts .entry); chars = now (chars .entry); places = now (places .entry); order = now (order .entry); work = now (work .entry); ranks = now (ranks .entry); pieces = now (pieces .entry); tallies = now (tallies .entry); scores = now (scores .entry); table = now (table .entry) }) (record { kept = now (kept .exit); counts = now (counts .exit); pieces = now (pieces .exit); tallies = now (tallies .exit); scores = now (scores .exit) }) r × (number ≡ startedNumber r) × (now (told .exit) ≡ startedTold r (now (told .entry)))) ⌝ }
+{
+    let started = start::start(
         settings(
             vocab_size,
             flag,
@@ -108,12 +142,6 @@ pub extern "C" fn bench_seed(
         tallies,
         scores,
         table,
-    ) {
-        Started::Seeded {
-            words,
-            pieces,
-            required,
-        } => seeded(told, words, pieces, required),
-        Started::Refused(r) => refused(told, r),
-    }
+    );
+    answered(told, started)
 }
