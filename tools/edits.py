@@ -2,9 +2,11 @@
 """Tries the edits of crates/NAME/must-fail/more: the prover must refuse each.
 
     python3 tools/edits.py [NAME...]        all crates that have such edits, or those named
+    python3 tools/edits.py --fit            only whether each edit fits its crate, which takes no time
 
 `rt ci` tries an edit of must-fail/ by checking its whole crate from nothing, which takes as long as proving the crate. So a crate
-that takes long has its edits in must-fail/more, and they are tried here, over the kit's incremental folder. It is filled with what
+that takes long has its edits in must-fail/more, but for those that document 01 names. They are tried here, over the kit's incremental
+folder. It is filled with what
 the proved crate's library holds of checked modules. First the crate is checked as it is, and has to be proved; then each edit, of
 which only what it changes is checked again. A program has no library, so all of it is checked once.
 
@@ -64,6 +66,22 @@ def apply(edit, folder):
         before.setdefault(path, text)
         path.write_text(text.replace(old, new))
     return before
+
+
+def fit(crates):
+    """Whether each edit fits its crate as it stands. What does not is told."""
+    bad = 0
+    for crate in crates:
+        for edit in edits_of(crate):
+            try:
+                with tempfile.TemporaryDirectory() as folder:
+                    shutil.copytree(ROOT / "crates" / crate, folder, dirs_exist_ok=True)
+                    apply(edit, Path(folder))
+            except Bad as why:
+                print(f"edits: {crate}/{edit.stem}: BAD EDIT: {why}")
+                bad += 1
+    print(f"edits: {sum(len(edits_of(crate)) for crate in crates) - bad} edits of {len(crates)} crates fit")
+    return not bad
 
 
 def make_room(folder):
@@ -136,7 +154,10 @@ def jobs():
 
 
 def main():
-    named = sys.argv[1:] or sorted({path.parent.parent.parent.name for path in ROOT.glob("crates/*/must-fail/more/*.edit")})
+    every = sorted({path.parent.parent.parent.name for path in ROOT.glob("crates/*/must-fail/more/*.edit")})
+    if sys.argv[1:] == ["--fit"]:
+        sys.exit(not fit(every))
+    named = sys.argv[1:] or every
     for crate in named:
         if not edits_of(crate):
             sys.exit(f"edits: {crate} has no edit in crates/{crate}/must-fail/more")
