@@ -13,7 +13,7 @@ use Rattle.lattice.specs.Layout.{joined}
 use Rattle.lattice.specs.Written.{over}
 use Rattle.lattice.specs.Pruning.{retained}
 use Rattle.listing.specs.Start as start
-use Rattle.tokens.specs.Tokens.{spansFrom}
+use Rattle.copied.specs.Put.{spansFrom}
 use Rattle.model.specs.Model.{Model, Task, remapTo, keepNext, stops, stalled}
 use Rattle.model.specs.Loop.{next}
 use Rattle.begun.specs.First.{taskOf}

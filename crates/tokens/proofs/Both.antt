@@ -14,11 +14,13 @@ use Rattle.positions.specs.Gathered.{bytesBefore}
 use Rattle.lattice.specs.Layout.{joined}
 use Rattle.lattice.proofs.Joined.{joined-append}
 use Rattle.lattice.proofs.Fronts.{sets-append}
-use Rattle.tokens.specs.Tokens.{Given, textsOf, tokensOf, scoresOf, spansFrom, Room, Filled}
-use Rattle.tokens.specs.Steps.{Counting, Fits, PuttingAll, PutsAll}
+use Rattle.copied.specs.Put.{spansFrom, PutsAll}
+use Rattle.copied.proofs.Stores.{sets-over}
+use Rattle.copied.proofs.Puts.{spans-long, spans-append}
+use Rattle.tokens.specs.Tokens.{Given, textsOf, tokensOf, scoresOf, Room, Filled}
+use Rattle.tokens.specs.Steps.{Counting, Fits, PuttingAll}
 use Rattle.tokens.proofs.Sums.{bytes-few}
-use Rattle.tokens.proofs.Stores.{sets-over}
-use Rattle.tokens.proofs.Lists.{first-long, joined-long, spans-long, spans-append}
+use Rattle.tokens.proofs.Lists.{first-long, joined-long}
 
 -- ---- one list put after the other, from the slots' front on
 both-put : (a b : List (List ℕ)) (bytes tokens : List ℕ) {bytes₁ tokens₁ bytes₂ tokens₂ : List ℕ} {next slot last : ℕ} → slot ≡ length a

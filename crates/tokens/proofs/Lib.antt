@@ -1,5 +1,4 @@
 pub mod Sums
-pub mod Stores
 pub mod Lists
 pub mod Turns
 pub mod Both

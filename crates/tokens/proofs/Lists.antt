@@ -1,7 +1,7 @@
--- The bytes and the spans of tokens, one token after the other. Assumes nothing.
+-- The bytes of tokens, one token after the other. Assumes nothing.
 use mathlib.Core.Path.{_≡_, refl, ap, _∙_}
 use mathlib.Core.List.{List, [], _∷_, _++_, append-nil}
-use Prim.Native.Nat.{ℕ, zero, suc, _+_, _*_}
+use Prim.Native.Nat.{ℕ, zero, suc}
 use native.Mathlib.Omega.{arith}
 use lib.ListN.{length, drop, length-append, length-drop}
 use lib.Seq.{length-take-le}
@@ -10,7 +10,6 @@ use Rattle.spans.specs.Check.{Good, AllGood}
 use Rattle.positions.specs.Gathered.{bytesBefore}
 use Rattle.lattice.specs.Layout.{joined}
 use Rattle.lattice.proofs.Joined.{joined-append}
-use Rattle.tokens.specs.Tokens.{spansFrom}
 
 pub octets-long : {text spans : List ℕ} {most k : ℕ} → Good text spans most k → length (octets text spans k) ≡ bytes spans k
 octets-long {text} {spans} {most} {k} g =
@@ -35,17 +34,3 @@ joined-long text spans (suc k) g =
     let c = joined-long text spans k (λ j l. g j (omega arith)) in
     let d = octets-long (g k (omega arith)) in
     omega arith
-
--- ---- the spans
-pub spans-long : (at : ℕ) (list : List (List ℕ)) → length (spansFrom at list) ≡ 2 * length list
-spans-long at [] = refl
-spans-long at (token ∷ rest) = let h = spans-long (at + length token) rest in omega arith
-
-pub spans-append : (at : ℕ) (a b : List (List ℕ)) → spansFrom at (a ++ b) ≡ spansFrom at a ++ spansFrom (at + length (joined a)) b
-spans-append at [] b = let e : at ≡ at + 0 = omega arith in ap (λ (n : ℕ). spansFrom n b) e
-spans-append at (token ∷ a) b =
-    let l = length-append token (joined a) in
-    let e : at + length token + length (joined a) ≡ at + length (token ++ joined a) = omega arith in
-    ap (λ (r : List ℕ). at ∷ length token ∷ r)
-    (spans-append (at + length token) a b
-    ∙ ap (λ (n : ℕ). spansFrom (at + length token) a ++ spansFrom n b) e)

@@ -8,7 +8,8 @@ use lib.IntN.{pos}
 use lib.Ieee.{Float, fin}
 use Rattle.laws.proofs.Outcome.{one-outcome}
 use Rattle.lattice.specs.Layout.{joined}
-use Rattle.tokens.specs.Tokens.{tokensOf, scoresOf, spansFrom, Room, Answers}
+use Rattle.copied.specs.Put.{spansFrom}
+use Rattle.tokens.specs.Tokens.{tokensOf, scoresOf, Room, Answers}
 use Rattle.tokens.specs.declared.Written.{Written}
 use Rattle.tokens.specs.declared.Written.the-variants.{Tokens, NoRoom}
 

@@ -11,41 +11,18 @@ use Rattle.positions.specs.Gathered.{bytesBefore}
 use Rattle.positions.proofs.Rows.{bytes-before}
 use Rattle.lattice.specs.Layout.{joined}
 use Rattle.lattice.proofs.Fronts.{sets-append}
-use Rattle.tokens.specs.Tokens.{spansFrom}
-use Rattle.tokens.specs.Steps.{Putting, Puts, PuttingAll, PutsAll}
-use Rattle.tokens.proofs.Lists.{octets-long, first-long, joined-more, joined-long, spans-long, spans-append}
+use Rattle.copied.specs.Put.{spansFrom, Puts, PutsAll}
+use Rattle.copied.proofs.Puts.{puts-more}
+use Rattle.tokens.specs.Steps.{Putting, PuttingAll}
+use Rattle.tokens.proofs.Lists.{octets-long, first-long, joined-long}
 
--- ---- one token: its bytes are a part of the text, and the two numbers are stored one by one
-pub put-done : {text spans out tokens : List ℕ} {k slot at : ℕ} → Putting text spans k out tokens slot at → (low long : ℕ) (out' : List ℕ) → low ≡ from spans k → long ≡ bytes spans k
-    → out' ≡ sets out at (take (low + long - low) (drop low text))
-    → Puts (octets text spans k) out tokens slot at out' (set (set tokens (2 * slot) at) (2 * slot + 1) long) (at + long)
-put-done {text} {spans} {out} {tokens} {k} {slot} {at} p low long out' l b e =
-    let m : low + long - low ≡ bytes spans k = omega arith in
-    let o : long ≡ length (octets text spans k) = b ∙ sym (octets-long (p .good)) in
-    record {
-      bytes-are = e ∙ ap₂ (λ (i j : ℕ). sets out at (take i (drop j text))) m l;
-      span-is = ap₂ (λ (i j : ℕ). set (set tokens (2 * slot) at) i j) (add-one (2 * slot)) o;
-      next = ap (λ (i : ℕ). at + i) o;
-    }
+-- ---- one token: its bytes are a part of the text
+module _ {text spans out tokens : List ℕ} {k slot at : ℕ} (p : Putting text spans k out tokens slot at) {low long : ℕ} (l : low ≡ from spans k) (b : long ≡ bytes spans k) where
+  the-token : take (low + long - low) (drop low text) ≡ octets text spans k
+  the-token = let m : low + long - low ≡ bytes spans k = omega arith in ap₂ (λ (i j : ℕ). take i (drop j text)) m l
 
--- ---- one token more
-module _ {list : List (List ℕ)} {out₀ tokens₀ out tokens : List ℕ} {slot at next : ℕ} (p : PutsAll list out₀ tokens₀ slot at out tokens next) where
-  pub puts-more : (token : List ℕ) (k : ℕ) {out' tokens' : List ℕ} {r : ℕ} → k ≡ length list → joined (list ++ token ∷ []) ≡ joined list ++ token
-      → Puts token out tokens (slot + k) next out' tokens' r → PutsAll (list ++ token ∷ []) out₀ tokens₀ slot at out' tokens' r
-  puts-more token k {out'} {tokens'} {r} e j q =
-      let here : 2 * (slot + k) ≡ 2 * slot + length (spansFrom at list) = omega (arith, spans-long at list) in
-      record {
-        bytes-are = q .bytes-are
-            ∙ ap₂ (λ (x : List ℕ) (n : ℕ). sets x n token) (p .bytes-are) (p .next)
-            ∙ sym (sets-append out₀ at (joined list) token)
-            ∙ ap (sets out₀ at) (sym j);
-        spans-are = q .span-is
-            ∙ ap₂ (λ (x : List ℕ) (n : ℕ). sets x n (next ∷ length token ∷ [])) (p .spans-are) here
-            ∙ sym (sets-append tokens₀ (2 * slot) (spansFrom at list) (next ∷ length token ∷ []))
-            ∙ ap (λ (n : ℕ). sets tokens₀ (2 * slot) (spansFrom at list ++ n ∷ length token ∷ [])) (p .next)
-            ∙ ap (sets tokens₀ (2 * slot)) (sym (spans-append at list (token ∷ [])));
-        next = let a = q .next in let b = p .next in let c = ap length j in let d = length-append (joined list) token in omega arith;
-      }
+  pub put-done : {out' tokens' : List ℕ} {r : ℕ} → Puts (take (low + long - low) (drop low text)) out tokens slot at out' tokens' r → Puts (octets text spans k) out tokens slot at out' tokens' r
+  put-done {out'} {tokens'} {r} q = subst (λ (t : List ℕ). Puts t out tokens slot at out' tokens' r) the-token q
 
 -- ---- how far the loop has come
 pub record Placed (text spans out₀ tokens₀ : List ℕ) (slot at n : ℕ) (out tokens : List ℕ) (next k : ℕ) : Type 0 where
@@ -101,7 +78,7 @@ module _ {text spans out₀ tokens₀ : List ℕ} {slot at : ℕ} (asked : Putti
         all = p .all;
         near = omega arith;
         puts = subst (λ (j : ℕ). PutsAll (first f j) out₀ tokens₀ slot at out' tokens' r) (sym (add-one k))
-            (puts-more (p .puts) (f k) k (sym (first-long f k)) (joined-more f k) q);
+            (puts-more (p .puts) (f k) k (sym (first-long f k)) q);
       }
 
   pub placed-all : n ≤ k → PutsAll (first (octets text spans) (many spans)) out₀ tokens₀ slot at out tokens next

@@ -1,15 +1,11 @@
 -- What the steps of a call ask and promise. Definitions only.
-use mathlib.Core.Path.{_≡_}
-use mathlib.Core.List.{List, [], _∷_}
+use mathlib.Core.List.{List}
 use Prim.Native.Nat.{ℕ, _+_, _*_, _/_, _≤_, _<_}
 use lib.ListN.{length}
-use lib.Seq.{sets}
 use lib.Ieee.{Float}
-use Rattle.spans.specs.Spans.{many, bytes, octets}
+use Rattle.spans.specs.Spans.{many, bytes}
 use Rattle.spans.specs.Check.{Good, AllGood}
 use Rattle.positions.specs.Gathered.{bytesBefore}
-use Rattle.lattice.specs.Layout.{joined}
-use Rattle.tokens.specs.Tokens.{spansFrom}
 
 -- ---- a count of bytes: few spans, each of at most 255 bytes, so that no sum overflows
 pub record Counting (spans : List ℕ) : Type 0 where
@@ -28,22 +24,11 @@ pub record Putting (text spans : List ℕ) (k : ℕ) (out tokens : List ℕ) (sl
   pub good : Good text spans 255 k
   pub byte-room : at + bytes spans k ≤ length out
   pub slot-room : 2 * slot + 2 ≤ length tokens
-  pub narrow : at < 4294967296
-
--- its bytes and its two numbers are stored, and the next token's bytes begin at r
-pub record Puts (token : List ℕ) (out tokens : List ℕ) (slot at : ℕ) (out' tokens' : List ℕ) (r : ℕ) : Type 0 where
-  pub bytes-are : out' ≡ sets out at token
-  pub span-is : tokens' ≡ sets tokens (2 * slot) (at ∷ length token ∷ [])
-  pub next : r ≡ at + length token
+  pub narrow : at + bytes spans k ≤ 4294967295
 
 -- ---- all spans of a list, the first at a slot and from a byte on
 pub record PuttingAll (text spans out tokens : List ℕ) (slot at : ℕ) : Type 0 where
   pub good : AllGood text spans 255 (many spans)
   pub byte-room : at + bytesBefore spans (many spans) ≤ length out
   pub slot-room : 2 * (slot + many spans) ≤ length tokens
-  pub narrow : at + bytesBefore spans (many spans) < 4294967296
-
-pub record PutsAll (list : List (List ℕ)) (out tokens : List ℕ) (slot at : ℕ) (out' tokens' : List ℕ) (r : ℕ) : Type 0 where
-  pub bytes-are : out' ≡ sets out at (joined list)
-  pub spans-are : tokens' ≡ sets tokens (2 * slot) (spansFrom at list)
-  pub next : r ≡ at + length (joined list)
+  pub narrow : at + bytesBefore spans (many spans) ≤ 4294967295

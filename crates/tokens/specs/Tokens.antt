@@ -3,8 +3,8 @@
 -- slots it doesn't fill." Definitions only.
 use mathlib.Core.Path.{_≡_}
 use mathlib.Core.Bool.{false}
-use mathlib.Core.List.{List, [], _∷_, _++_}
-use Prim.Native.Nat.{ℕ, _+_, _/_, _≤_}
+use mathlib.Core.List.{List, _++_}
+use Prim.Native.Nat.{ℕ, _/_, _≤_}
 use lib.ListN.{length, drop, replicate}
 use lib.IntN.{pos}
 use lib.Ieee.{Float, fin}
@@ -12,6 +12,7 @@ use Rattle.spans.specs.Spans.{many, octets, first}
 use Rattle.spans.specs.Check.{AllGood}
 use Rattle.lattice.specs.Layout.{joined}
 use Rattle.lattice.specs.Written.{over}
+use Rattle.copied.specs.Put.{spansFrom}
 use Rattle.tokens.specs.declared.Written.{Written}
 use Rattle.tokens.specs.declared.Written.the-variants.{Tokens, NoRoom}
 
@@ -35,11 +36,6 @@ tokensOf texts specials text pieces = textsOf texts specials ++ textsOf text pie
 -- "score 0", which is +0; then the scores of the pieces
 abbrev pub scoresOf : List ℕ → List Float → List Float
 scoresOf specials scores = replicate (many specials) (fin false 0 (pos 0)) ++ scores
-
--- where the bytes of each token begin, and how many they are; the tokens follow each other
-abbrev pub spansFrom : ℕ → List (List ℕ) → List ℕ
-spansFrom at [] = []
-spansFrom at (token ∷ rest) = at ∷ length token ∷ spansFrom (at + length token) rest
 
 -- ---- the room that tokens need, "specials included": two numbers and a score for each, and their bytes
 pub record Room (list : List (List ℕ)) (bytes tokens : List ℕ) (slots : List Float) : Type 0 where

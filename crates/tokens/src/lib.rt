@@ -8,6 +8,7 @@
 //
 // Specials and pieces are spans (crate `spans`), checked before: at most 256 and 1,048,576 of them with at most 255 bytes each,
 // so all bytes together are fewer than 2^28, and a number of 32 bits holds where a token begins.
+use copied::put;
 ghost use mathlib.Core.Path.{_≡_};
 ghost use mathlib.Core.Bool.{false};
 ghost use Prim.Native.Nat.{_+_, _≤_};
@@ -18,8 +19,9 @@ ghost use lib.Seq.{sets};
 ghost use Rattle.laws.specs.Tests.{Says};
 ghost use Rattle.spans.specs.Spans.{many, octets};
 ghost use Rattle.positions.specs.Gathered.{bytesBefore};
+ghost use Rattle.copied.specs.Put.{Puts, PutsAll};
 ghost use Rattle.tokens.specs.Tokens.{Given, textsOf, tokensOf, scoresOf, Answers};
-ghost use Rattle.tokens.specs.Steps.{Counting, Fits, Putting, Puts, PuttingAll, PutsAll};
+ghost use Rattle.tokens.specs.Steps.{Counting, Fits, Putting, PuttingAll};
 
 // The tokens are written, so many; or there is no room, and nothing is.
 pub enum Written {
@@ -55,20 +57,8 @@ fn fits(count: usize, long: usize, bytes: &[u8], tokens: &[u32], token_scores: &
     long <= bytes.len()
 }
 
-// Copies a token's bytes to `bytes` from `at` on.
-fn copy(token: &[u8], bytes: &mut [u8], at: usize)
-    requires { ⌜ at + length (now token) ≤ length (now bytes) ⌝ }
-    ensures { λ _. ⌜ now (bytes .exit) ≡ sets (now (bytes .entry)) at (now (token .entry)) ⌝ }
-{
-    let mut k = 0;
-    while k < token.len() {
-        bytes[at + k] = token[k];
-        k += 1;
-    }
-}
-
 // Puts span k of a list: its bytes from `at` on, its two numbers at a slot. Answers where the next token's bytes begin.
-fn put(
+fn put_span(
     text: &[u8],
     list: &[u32],
     k: usize,
@@ -83,10 +73,7 @@ fn put(
     let low = spans::from(list, k);
     let long = spans::bytes(list, k);
     let high = low + long;
-    copy(&text[low..high], bytes, at);
-    tokens[2 * slot] = at as u32;
-    tokens[2 * slot + 1] = long as u32;
-    at + long
+    put(&text[low..high], bytes, tokens, slot, at)
 }
 
 // Puts all spans of a list, the first at a slot and from a byte on. Answers where the next token's bytes begin.
@@ -105,7 +92,7 @@ fn put_all(
     let mut next = at;
     let mut k = 0;
     while k < many {
-        next = put(text, list, k, bytes, tokens, slot + k, next);
+        next = put_span(text, list, k, bytes, tokens, slot + k, next);
         k += 1;
     }
     next

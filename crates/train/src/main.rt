@@ -4,29 +4,27 @@
 // frame, and of what has no room only that is kept. Then the first refusal that applies is told: BadFrame, NoRoom 5, and
 // training's own. It ends with status 0, refused or not, and writes nothing to standard error.
 //
-// No contract can say what is read, so the proofs begin behind that: from the bytes of a chunk to the frames of its lines
-// (specs/Lines.antt, proofs/Theorems.antt), and from there in the crates `frames` and `training`.
+// No contract can say what is read, so the proofs begin behind that: from the bytes of a chunk to the frames of its lines and to
+// the slices that training is lent (crate `lines`), and from there in the crate `training`.
 //
 // stdin and stdout beside src/ are document 01's sample. The file cases has some hundred inputs more and what is printed for each:
 // tools/vectors/train.py makes it, and tools/train.py runs it.
 mod learn;
-mod lines;
+mod read;
 mod show;
-mod store;
 
 use frames::Ended;
 use learn::learn;
-use lines::Input;
-use lines::read_input;
+use read::read_input;
 use refusal::Refusal;
 use show::tell_refusal;
-use store::Stored;
+use stored::Stored;
 
 // Trains on what was stored, if the input is in order and there was room for it.
 fn answer(
     ended: Ended,
     stored: Stored,
-    texts: &[u8; 65280],
+    texts: &[u8; 65535],
     specials: &[u32; 514],
     text: &[u8; 8192],
     words: &[u32; 512],
@@ -45,7 +43,7 @@ fn answer(
 }
 
 fn main() {
-    let mut texts = [0u8; 65280];
+    let mut texts = [0u8; 65535];
     let mut specials = [0u32; 514];
     let mut text = [0u8; 8192];
     let mut words = [0u32; 512];

@@ -4,7 +4,7 @@ use Prim.Native.Nat.{_-_}
 use native.Mathlib.Omega.{arith}
 use lib.ListN.{length}
 use lib.Ieee.{Float, nan}
-use Rattle.tokens.proofs.Stores.{Copied, copied-none, copied-long, copied-room, copied-more, copied-all}
+use Rattle.copied.proofs.Stores.{Copied, copied-none, copied-long, copied-room, copied-more, copied-all}
 use Rattle.tokens.proofs.copy_scores.Statement.{statement}
 use Rattle.tokens.proofs.copy_scores.Tie as tie
 

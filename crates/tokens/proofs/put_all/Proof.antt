@@ -18,11 +18,11 @@ count-requires c κs = tt
 loop-holds : tie.Need-loop-holds Inv-loop μ-loop
 loop-holds c = placed-none (c .before .before .before .before .before .args .text .now) (c .before .before .before .before .before .args .list .now) (c .before .before .before .before .before .args .bytes .now) (c .before .before .before .before .before .args .tokens .now) (c .before .before .before .before .before .args .slot) (c .before .before .before .before .before .args .at) (c .count .result) (c .count .ensures)
 
-add-put : tie.Need-add-put Inv-loop μ-loop
-add-put c = omega (arith, placed-slot (c .before .before .before .before .before .before .before .before .before .pre) (c .before .before .before .loop .inv) (c .before .before .loop-test .taken))
+add-put-span : tie.Need-add-put-span Inv-loop μ-loop
+add-put-span c = omega (arith, placed-slot (c .before .before .before .before .before .before .before .before .before .pre) (c .before .before .before .loop .inv) (c .before .before .loop-test .taken))
 
-put-requires : tie.Need-put-requires Inv-loop μ-loop
-put-requires c κs = placed-turn (c .before .before .before .before .before .before .before .before .before .pre) (c .before .before .before .loop .inv) (c .before .before .loop-test .taken)
+put-span-requires : tie.Need-put-span-requires Inv-loop μ-loop
+put-span-requires c κs = placed-turn (c .before .before .before .before .before .before .before .before .before .pre) (c .before .before .before .loop .inv) (c .before .before .loop-test .taken)
 
 add-k : tie.Need-add-k Inv-loop μ-loop
 add-k c = omega (arith, c .before .before .before .before .before .before .before .loop-test .taken)
@@ -31,7 +31,7 @@ loop-less : tie.Need-loop-less Inv-loop μ-loop
 loop-less c = omega (arith, c .before .before .before .before .before .before .before .loop-test .taken)
 
 loop-again : tie.Need-loop-again Inv-loop μ-loop
-loop-again c = placed-more (c .before .before .before .before .before .before .before .before .before .before .before .before .before .before .pre) (c .before .before .before .before .before .before .before .before .loop .inv) (c .before .before .before .before .before .before .before .loop-test .taken) (c .before .before .before .before .put .ensures)
+loop-again c = placed-more (c .before .before .before .before .before .before .before .before .before .before .before .before .before .before .pre) (c .before .before .before .before .before .before .before .before .loop .inv) (c .before .before .before .before .before .before .before .loop-test .taken) (c .before .before .before .before .put-span .ensures)
 
 same-length : tie.Need-same-length Inv-loop μ-loop
 same-length c = out-long (c .before .before .before .before .before .before .before .pre) (c .before .loop .inv)
@@ -50,8 +50,8 @@ put-all-spec =
     μ-loop
     count-requires
     loop-holds
-    add-put
-    put-requires
+    add-put-span
+    put-span-requires
     add-k
     loop-less
     loop-again

@@ -6,7 +6,7 @@ use native.Mathlib.Omega.{arith}
 use lib.IntN.{pos}
 use lib.Ieee.{Float, fin, ofBits}
 use Rattle.laws.proofs.Fills.{Filled, filled-none, filled-more}
-use Rattle.tokens.proofs.Stores.{filled-stored}
+use Rattle.copied.proofs.Stores.{filled-stored}
 use Rattle.tokens.proofs.zeros.Statement.{statement}
 use Rattle.tokens.proofs.zeros.Tie as tie
 

@@ -1,3 +1,0 @@
--- Laws over plain numbers and lists, which the proofs of the functions cite.
-pub mod Streaming
-pub mod Theorems
