@@ -1,2 +1,4 @@
 pub mod Seeing
+pub mod Showing
+pub mod Tokens
 pub mod Theorems

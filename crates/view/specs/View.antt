@@ -1,34 +1,37 @@
--- One word's lattice among a cache's slices: document 01, "`view` of an absent index, or of a span outside its slices, is
--- BadLattice at it, with n 0 and empty slices". Definitions only.
-use mathlib.Core.Bool.{Bool, cond, _&&_}
+-- What a view shows of the slices that it borrows, and what it is to show. Definitions only.
 use mathlib.Core.List.{List}
-use Prim.Native.Nat.{ℕ, _+_, _*_}
-use lib.Dec.{leb}
-use lib.ListN.{length, getD}
-use Rattle.refusal.specs.declared.Refusal.the-variants.{BadLattice}
-use Rattle.view.specs.declared.Seen.the-variants.{Whole, Refused}
+use Prim.Native.Nat.{ℕ, _-_}
+use lib.ListN.{take, drop}
+use denote.Ref.{now}
+use Rattle.view.specs.declared.Seen.{Seen}
+use Rattle.view.specs.declared.Located.{Located}
 use Rattle.view.specs.declared.LatticeView.{LatticeView}
+use Rattle.view.specs.Located.{located}
 
--- the index has a span: four numbers
-abbrev pub present : List ℕ → ℕ → Bool
-present spans index = leb (4 * index + 4) (length spans)
+-- what stands from one position up to, not with, another
+abbrev pub part : ℕ → ℕ → List ℕ → List ℕ
+part from to slots = take (to - from) (drop from slots)
 
--- the span is inside the slices: its edges in both, and its n + 2 offsets
-abbrev pub inside : List ℕ → List ℕ → List ℕ → ℕ → ℕ → ℕ → ℕ → Bool
-inside starts ids offsets from to at n = leb from to && (leb to (length starts) && (leb to (length ids) && leb (at + n + 2) (length offsets)))
+abbrev pub offsetsOf : Located → List ℕ → List ℕ
+offsetsOf word = part (word .at) (word .past)
 
--- where the word's edges and offsets stand, from the first up to, not with, the last
-abbrev pub whole : ℕ → ℕ → ℕ → ℕ → LatticeView
-whole from to at n = record { seen = Whole; from = from; to = to; at = at; past = at + n + 2; n = n }
+abbrev pub edgesOf : Located → List ℕ → List ℕ
+edgesOf word = part (word .from) (word .to)
 
-abbrev pub absent : ℕ → LatticeView
-absent index = record { seen = Refused (BadLattice index); from = 0; to = 0; at = 0; past = 0; n = 0 }
+-- a view without where its slices stand in memory
+pub record Shown : Type 0 where
+  pub seen : Seen
+  pub n : ℕ
+  pub offsets : List ℕ
+  pub starts : List ℕ
+  pub ids : List ℕ
 
-abbrev pub spanned : List ℕ → List ℕ → List ℕ → ℕ → ℕ → ℕ → ℕ → ℕ → LatticeView
-spanned starts ids offsets index from to at n = cond (inside starts ids offsets from to at n) (whole from to at n) (absent index)
+abbrev pub shown : LatticeView → Shown
+shown v = record { seen = v .seen; n = v .n; offsets = now (v .offsets); starts = now (v .starts); ids = now (v .ids) }
 
-unfoldable pub viewed : List ℕ → List ℕ → List ℕ → List ℕ → ℕ → LatticeView
-viewed starts ids offsets spans index =
-    cond (present spans index)
-    (spanned starts ids offsets index (getD spans (4 * index) 0) (getD spans (4 * index + 1) 0) (getD spans (4 * index + 2) 0) (getD spans (4 * index + 3) 0))
-    (absent index)
+-- a word's parts of a cache's slices
+abbrev pub parted : List ℕ → List ℕ → List ℕ → Located → Shown
+parted starts ids offsets word = record { seen = word .seen; n = word .n; offsets = offsetsOf word offsets; starts = edgesOf word starts; ids = edgesOf word ids }
+
+abbrev pub viewed : List ℕ → List ℕ → List ℕ → List ℕ → ℕ → Shown
+viewed starts ids offsets spans index = parted starts ids offsets (located starts ids offsets spans index)

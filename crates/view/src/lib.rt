@@ -1,11 +1,16 @@
-// One word's lattice, seen among the slices of a cache: `LatticeView` of lattice.rs, in its covered form.
+// One word's lattice, seen among the slices of a cache: `LatticeView` of lattice.rs.
 //
-// A view says where the word's edges stand in `starts` and `ids` and where its n + 2 offsets stand in `offsets`, each from the
-// first up to, not with, the last. It holds no slices of its own, so that a caller lends those parts as it needs them. Document
-// 01: "`view` of an absent index, or of a span outside its slices, is BadLattice at it, with n 0 and empty slices".
+// Document 01: "`LatticeView` keeps its borrowed slices, over thin functions": "a struct over offsets, starts and piece ids; first
+// a covered form with plain slices, then this view by hand". The covered form is `Located`, which says where the word's edges
+// stand in `starts` and `ids` and where its n + 2 offsets stand in `offsets`, each from the first up to, not with, the last. The
+// view borrows those parts. "`view` of an absent index, or of a span outside its slices, is BadLattice at it, with n 0 and empty
+// slices".
 use refusal::Refusal;
 ghost use mathlib.Core.Path.{_≡_};
-ghost use Rattle.view.specs.View.{inside, absent, viewed};
+ghost use Prim.Native.Nat.{_≤_};
+ghost use lib.ListN.{length};
+ghost use Rattle.view.specs.Located.{inside, absent, located};
+ghost use Rattle.view.specs.View.{offsetsOf, edgesOf, shown, viewed};
 
 // The lattice is there, or why not.
 pub enum Seen {
@@ -14,7 +19,7 @@ pub enum Seen {
 }
 
 // Where a word's edges and offsets stand, and how many characters it has.
-pub struct LatticeView {
+pub struct Located {
     pub seen: Seen,
     pub from: usize,
     pub to: usize,
@@ -33,10 +38,10 @@ fn inside(starts: &[u32], ids: &[u32], offsets: &[u32], from: u32, to: u32, at: 
 }
 
 // No lattice: n 0 and nothing of the slices.
-fn absent(index: usize) -> LatticeView
+fn absent(index: usize) -> Located
     ensures { λ r. ⌜ r ≡ absent index ⌝ }
 {
-    LatticeView {
+    Located {
         seen: Seen::Refused(Refusal::BadLattice(index as u64)),
         from: 0,
         to: 0,
@@ -46,15 +51,9 @@ fn absent(index: usize) -> LatticeView
     }
 }
 
-// The lattice of one word of a cache.
-pub fn view(
-    starts: &[u32],
-    ids: &[u32],
-    offsets: &[u32],
-    spans: &[u32],
-    index: usize,
-) -> LatticeView
-    ensures { λ r. ⌜ r ≡ viewed (now (starts .entry)) (now (ids .entry)) (now (offsets .entry)) (now (spans .entry)) index ⌝ }
+// Where the lattice of one word of a cache stands.
+pub fn locate(starts: &[u32], ids: &[u32], offsets: &[u32], spans: &[u32], index: usize) -> Located
+    ensures { λ r. ⌜ r ≡ located (now (starts .entry)) (now (ids .entry)) (now (offsets .entry)) (now (spans .entry)) index ⌝ }
 {
     if spans.len() / 4 <= index {
         return absent(index);
@@ -67,12 +66,61 @@ pub fn view(
     if !inside(starts, ids, offsets, from, to, at, n) {
         return absent(index);
     }
-    LatticeView {
+    Located {
         seen: Seen::Whole,
         from: from as usize,
         to: to as usize,
         at: at as usize,
         past: at as usize + n as usize + 2,
         n: n as usize,
+    }
+}
+
+// A word's offsets among a cache's.
+fn offsets_of<'a>(offsets: &'a [u32], word: Located) -> &'a [u32]
+    requires { ⌜ (word .at ≤ word .past) × (word .past ≤ length (now offsets)) ⌝ }
+    ensures { λ r. ⌜ now r ≡ offsetsOf word (now (offsets .entry)) ⌝ }
+{
+    let at = word.at;
+    let past = word.past;
+    &offsets[at..past]
+}
+
+// What a slice of edges, starts or piece ids, has of a word.
+fn edges_of<'a>(edges: &'a [u32], word: Located) -> &'a [u32]
+    requires { ⌜ (word .from ≤ word .to) × (word .to ≤ length (now edges)) ⌝ }
+    ensures { λ r. ⌜ now r ≡ edgesOf word (now (edges .entry)) ⌝ }
+{
+    let from = word.from;
+    let to = word.to;
+    &edges[from..to]
+}
+
+// One word's lattice, borrowed: its n + 2 offsets, and where each of its edges starts and which piece it is.
+pub struct LatticeView<'a> {
+    pub seen: Seen,
+    pub n: usize,
+    pub offsets: &'a [u32],
+    pub starts: &'a [u32],
+    pub ids: &'a [u32],
+}
+
+// The lattice of one word of a cache.
+pub fn view<'a>(
+    starts: &'a [u32],
+    ids: &'a [u32],
+    offsets: &'a [u32],
+    spans: &[u32],
+    index: usize,
+) -> LatticeView<'a>
+    ensures { λ r. ⌜ shown r ≡ viewed (now (starts .entry)) (now (ids .entry)) (now (offsets .entry)) (now (spans .entry)) index ⌝ }
+{
+    let word = locate(starts, ids, offsets, spans, index);
+    LatticeView {
+        seen: word.seen,
+        n: word.n,
+        offsets: offsets_of(offsets, word),
+        starts: edges_of(starts, word),
+        ids: edges_of(ids, word),
     }
 }
