@@ -1,4 +1,5 @@
 pub mod Seeing
 pub mod Showing
 pub mod Tokens
+pub mod Held
 pub mod Theorems

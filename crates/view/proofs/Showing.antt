@@ -8,5 +8,5 @@ use Rattle.view.specs.View.{offsetsOf, edgesOf, Shown, parted, viewed}
 
 module _ (starts ids offsets spans : List ℕ) (index : ℕ) where
   pub shows : (word : Located) (o s i : List ℕ) → word ≡ located starts ids offsets spans index → o ≡ offsetsOf word offsets → s ≡ edgesOf word starts → i ≡ edgesOf word ids
-      → record { seen = word .seen; n = word .n; offsets = o; starts = s; ids = i } ≡ viewed starts ids offsets spans index
-  shows word o s i e eo es ei = (λ j. record { seen = word .seen; n = word .n; offsets = eo j; starts = es j; ids = ei j }) ∙ ap (parted starts ids offsets) e
+      → record { offsets = o; starts = s; ids = i; n = word .n; seen = word .seen } ≡ viewed starts ids offsets spans index
+  shows word o s i e eo es ei = (λ j. record { offsets = eo j; starts = es j; ids = ei j; n = word .n; seen = word .seen }) ∙ ap (parted starts ids offsets) e

@@ -20,18 +20,18 @@ edgesOf word = part (word .from) (word .to)
 
 -- a view without where its slices stand in memory
 pub record Shown : Type 0 where
-  pub seen : Seen
-  pub n : ℕ
   pub offsets : List ℕ
   pub starts : List ℕ
   pub ids : List ℕ
+  pub n : ℕ
+  pub seen : Seen
 
 abbrev pub shown : LatticeView → Shown
-shown v = record { seen = v .seen; n = v .n; offsets = now (v .offsets); starts = now (v .starts); ids = now (v .ids) }
+shown v = record { offsets = now (v .offsets); starts = now (v .starts); ids = now (v .ids); n = v .n; seen = v .seen }
 
 -- a word's parts of a cache's slices
 abbrev pub parted : List ℕ → List ℕ → List ℕ → Located → Shown
-parted starts ids offsets word = record { seen = word .seen; n = word .n; offsets = offsetsOf word offsets; starts = edgesOf word starts; ids = edgesOf word ids }
+parted starts ids offsets word = record { offsets = offsetsOf word offsets; starts = edgesOf word starts; ids = edgesOf word ids; n = word .n; seen = word .seen }
 
 abbrev pub viewed : List ℕ → List ℕ → List ℕ → List ℕ → ℕ → Shown
 viewed starts ids offsets spans index = parted starts ids offsets (located starts ids offsets spans index)

@@ -5,10 +5,13 @@
 // stand in `starts` and `ids` and where its n + 2 offsets stand in `offsets`, each from the first up to, not with, the last. The
 // view borrows those parts. "`view` of an absent index, or of a span outside its slices, is BadLattice at it, with n 0 and empty
 // slices".
+use cut::Connection;
 use refusal::Refusal;
 ghost use mathlib.Core.Path.{_≡_};
 ghost use Prim.Native.Nat.{_≤_};
 ghost use lib.ListN.{length};
+ghost use Rattle.cut.specs.Cut.{zeros};
+ghost use Rattle.cut.specs.Sums.{Connects};
 ghost use Rattle.view.specs.Located.{inside, absent, located};
 ghost use Rattle.view.specs.View.{offsetsOf, edgesOf, shown, viewed};
 
@@ -98,11 +101,11 @@ fn edges_of<'a>(edges: &'a [u32], word: Located) -> &'a [u32]
 
 // One word's lattice, borrowed: its n + 2 offsets, and where each of its edges starts and which piece it is.
 pub struct LatticeView<'a> {
-    pub seen: Seen,
-    pub n: usize,
     pub offsets: &'a [u32],
     pub starts: &'a [u32],
     pub ids: &'a [u32],
+    pub n: usize,
+    pub seen: Seen,
 }
 
 // The lattice of one word of a cache.
@@ -117,10 +120,20 @@ pub fn view<'a>(
 {
     let word = locate(starts, ids, offsets, spans, index);
     LatticeView {
-        seen: word.seen,
-        n: word.n,
         offsets: offsets_of(offsets, word),
         starts: edges_of(starts, word),
         ids: edges_of(ids, word),
+        n: word.n,
+        seen: word.seen,
+    }
+}
+
+impl<'a> LatticeView<'a> {
+    // Whether some chain of edges leads from the first position of the word to its last.
+    pub fn is_connected(self, reach: &mut [u32]) -> Connection
+        ensures { λ r. ⌜ Connects (now (self .entry .offsets)) (now (self .entry .starts)) (now (self .entry .ids)) (self .entry .n) (now (reach .entry)) r ⌝ }
+        ensures { λ _. ⌜ now (reach .exit) ≡ zeros (length (now (reach .entry))) ⌝ }
+    {
+        cut::is_connected(self.offsets, self.starts, self.ids, self.n, reach)
     }
 }

@@ -185,6 +185,13 @@ module _ {M : Type 1} (𝓤 : URA M) (H : Heap 𝓤) (A : Atoms 𝓤) (W : Given
   located-said : (w : Located) → ent 𝓤 (ensured 𝓤 H A locate.ended (locate.clauses 𝓤 H A mem run) (κ, (κ, (κ, (κ′, tt)))) a tt w) (fact 𝓤 (w ≡ found))
   located-said w = exE 𝓤 _ (λ ws. snd∗ 𝓤 (sem 𝓤 H A (lasts locate.ended (κ, (κ, (κ, (κ′, tt)))) a ws)) (fact 𝓤 (w ≡ found)))
 
+  -- what `locate` says is inside the slices, and its number of characters is a usize
+  inside : (w : Located) → w ≡ found → Within (now s) (now i) (now o) w
+  inside w e = subst (Within (now s) (now i) (now o)) (sym e) (within (now s) (now i) (now o) (now p) x)
+
+  n-fits : (w : Located) (u : Val) → Is Z.the-row w (u ∷ []) → w .n < 2 ^ 64
+  n-fits w u is = LL.owed Z.the-type Z′.the-laws w (u ∷ []) is .1 .1 .1 .1 .1 .0 .1
+
   module _ (w : Located) where
     word-twice : ent 𝓤 (sem 𝓤 H A (OwnW w)) (sep 𝓤 (sem 𝓤 H A (OwnW w)) (sem 𝓤 H A (OwnW w)))
     word-twice = LL.copy Z.the-type Z′.the-copy 𝓤 H A W .twice w (mach w ∷ [])
@@ -233,7 +240,7 @@ module _ {M : Type 1} (𝓤 : URA M) (H : Heap 𝓤) (A : Atoms 𝓤) (W : Given
 
     -- ---- the view that is made
     abbrev made : RefT (List ℕ) → RefT (List ℕ) → RefT (List ℕ) → LatticeView
-    made ro rs ri = record { seen = w .seen; n = w .n; offsets = ro; starts = rs; ids = ri }
+    made ro rs ri = record { offsets = ro; starts = rs; ids = ri; n = w .n; seen = w .seen }
 
     exits : (ro rs ri : RefT (List ℕ)) → w .n < 2 ^ 64 → w ≡ found → now ro ≡ offsetsOf w (now o) → now rs ≡ edgesOf w (now s) → now ri ≡ edgesOf w (now i)
         → ent 𝓤 (⋆ 𝓤 H A (‵ (Own ri) ∷ Token ∷ ‵ (Kept₄ w ro rs) ∷ [])) (Post (LL.val D L (made ro rs ri)))
@@ -246,8 +253,8 @@ module _ {M : Type 1} (𝓤 : URA M) (H : Heap 𝓤) (A : Atoms 𝓤) (W : Given
         move ! (6 ∷ []) $ split ! $ move ! (4 ∷ 1 ∷ []) $ join ! $ move ! (1 ∷ 0 ∷ []) $ join ! $ frame ! $ move ! (1 ∷ []) $ frame ! $
         use1 W (given (mach w ∷ [] ≡ mach w ∷ []) (‵ (all-own (Z.the-type .parts) Z′.the-laws (fieldsOf w)))) (own-open 𝓤 H A W Z.the-type Z′.the-laws (fieldsOf w) (mach w)) $ learn ! (λ _. fsplit ! $ move ! (1 ∷ []) $ drop ! $
         -- [what is seen; the parts of offsets, of starts and of ids]
-        nothing ! $ move ! (4 ∷ 0 ∷ []) $ fjoin ! $ move ! (3 ∷ 0 ∷ []) $ fjoin ! $ move ! (2 ∷ 0 ∷ []) $ fjoin ! $ owned ! usize (Is usize) (uint-makes 𝓤 H A W w64) (w .n) _ (refl, fits) $ fjoin ! $ move ! (1 ∷ 0 ∷ []) $ fjoin ! $
-        by ! (own-shut 𝓤 H A W D L (w .seen, (w .n, (ro, (rs, (ri, tt)))))))
+        nothing ! $ move ! (1 ∷ 0 ∷ []) $ fjoin ! $ owned ! usize (Is usize) (uint-makes 𝓤 H A W w64) (w .n) _ (refl, fits) $ fjoin ! $ move ! (3 ∷ 0 ∷ []) $ fjoin ! $ move ! (2 ∷ 0 ∷ []) $ fjoin ! $ move ! (1 ∷ 0 ∷ []) $ fjoin ! $
+        by ! (own-shut 𝓤 H A W D L (ro, (rs, (ri, (w .n, (w .seen, tt)))))))
 
   module _ (C : Calls 𝓤 H) (Λ : Loops 𝓤 H) (fm : FmC 𝓤 H (W .laws) C) (known-locate : Triple 𝓤 (C #view·locate) (Locate 𝓤 H A mem run)) (known-offsets : Triple 𝓤 (C #view·offsets-of) (Offsets 𝓤 H A mem run)) (known-edges : Triple 𝓤 (C #view·edges-of) (Edges 𝓤 H A mem run)) where
     walk : Is (ShrSlice (named 0) κ u32) s (val s ∷ []) → Is (ShrSlice (named 0) κ u32) i (val i ∷ []) → Is (ShrSlice (named 0) κ u32) o (val o ∷ []) → Is (ShrSlice (named 1) κ′ u32) p (val p ∷ [])
@@ -264,13 +271,11 @@ module _ {M : Type 1} (𝓤 : URA M) (H : Heap 𝓤) (A : Atoms 𝓤) (W : Given
         split ! $ move ! (1 ∷ []) $ use1 W (raw (fact 𝓤 (w ≡ found))) (located-said w) $ heard ! (w ≡ found) (λ e. split ! $ move ! (1 ∷ []) $
         -- [the word; the tokens; what is kept; room for _9; …; room for _8; …; room for _7; …; room for _6; …; _5; …; _4; …; _3; …; _2; …; _1; …; room for _0; …]
         peeks ! Z.the-row (Is Z.the-row) (shown-by 𝓤 H A Z.the-row) w (u ∷ []) (λ is.
-        let fields = LL.owed Z.the-type Z′.the-laws w (u ∷ []) is in
-        let inside = subst (Within (now s) (now i) (now o)) (sym e) (within (now s) (now i) (now o) (now p) x) in
         land ! (from ! (stop !)) (init ! 9 refl (LL.lawful Z.the-type Z′.the-laws 𝓤 H A W .typed w _ is .0)) $
         rewrite ! 9 (λ (us : List Val). ‵ (fat fullShare Z′.mir l₆ 0 (only us))) (LL.tells Z.the-type Z′.the-laws w (u ∷ []) is) refl $
         rewrite ! 0 (λ (us : List Val). ‵ (Z.the-row .own w us)) (LL.tells Z.the-type Z′.the-laws w (u ∷ []) is) refl $
         -- `offsets_of`
-        use3 W (raw (Offsets 𝓤 H A mem run .pre (to-offsets w)) ⊛ ‵ (Kept₂ w)) (goes-offsets w (inside .at-past, inside .in-offsets)) $ split ! $
+        use3 W (raw (Offsets 𝓤 H A mem run .pre (to-offsets w)) ⊛ ‵ (Kept₂ w)) (goes-offsets w (inside w e .at-past, inside w e .in-offsets)) $ split ! $
         calls-at ! fm (Offsets 𝓤 H A mem run) known-offsets (to-offsets w) (and-then ! (load ! (from ! (stop !)) (look ! 14 refl)) (and-then ! (load ! (from ! (stop !)) (look ! 8 refl)) (no-more !))) (λ uo.
         use1 W (later (some (λ (ro : RefT (List ℕ)). (Token ⊛ ‵ (ShrSlice (named 0) κ u32 .own ro (uo ∷ []))) ⊛ raw (ensured 𝓤 H A offsets.ended (offsets.clauses 𝓤 H A mem run) (κ, tt) (o, (w, tt)) tt ro)))) (id⊢ 𝓤 _) $ await ! tt $ pick ! (λ ro.
         split ! $ move ! (1 ∷ []) $ use1 W (raw (fact 𝓤 (now ro ≡ offsetsOf w (now o)))) (offsets-said w ro) $ heard ! (now ro ≡ offsetsOf w (now o)) (λ eo. split ! $ move ! (1 ∷ []) $
@@ -278,7 +283,7 @@ module _ {M : Type 1} (𝓤 : URA M) (H : Heap 𝓤) (A : Atoms 𝓤) (W : Given
         land ! (from ! (stop !)) (init ! 7 refl (shr-slice-lawful 𝓤 H A W (named 0) κ u32 .typed ro _ is-ro .0)) $
         rewrite ! 7 (λ (us : List Val). ‵ (fat fullShare (sliceTy (tyRef erased imm (tyInt w32))) l₇ 0 (only us))) (is-ro .0 .0) refl $ rewrite ! 0 (λ (us : List Val). ‵ (ShrSlice (named 0) κ u32 .own ro us)) (is-ro .0 .0) refl $
         -- `edges_of`, at the starts
-        use3 W (raw (Edges 𝓤 H A mem run .pre (to-edges w s)) ⊛ ‵ (Kept₃ w ro)) (goes-starts w ro (inside .from-to, inside .in-starts)) $ split ! $
+        use3 W (raw (Edges 𝓤 H A mem run .pre (to-edges w s)) ⊛ ‵ (Kept₃ w ro)) (goes-starts w ro (inside w e .from-to, inside w e .in-starts)) $ split ! $
         calls-at ! fm (Edges 𝓤 H A mem run) known-edges (to-edges w s) (and-then ! (load ! (from ! (stop !)) (look ! 18 refl)) (and-then ! (load ! (from ! (stop !)) (look ! 8 refl)) (no-more !))) (λ us.
         use1 W (later (some (λ (rs : RefT (List ℕ)). (Token ⊛ ‵ (ShrSlice (named 0) κ u32 .own rs (us ∷ []))) ⊛ raw (ensured 𝓤 H A edges.ended (edges.clauses 𝓤 H A mem run) (κ, tt) (s, (w, tt)) tt rs)))) (id⊢ 𝓤 _) $ await ! tt $ pick ! (λ rs.
         split ! $ move ! (1 ∷ []) $ use1 W (raw (fact 𝓤 (now rs ≡ edgesOf w (now s)))) (edges-said w s rs) $ heard ! (now rs ≡ edgesOf w (now s)) (λ es. split ! $ move ! (1 ∷ []) $
@@ -286,7 +291,7 @@ module _ {M : Type 1} (𝓤 : URA M) (H : Heap 𝓤) (A : Atoms 𝓤) (W : Given
         land ! (from ! (stop !)) (init ! 5 refl (shr-slice-lawful 𝓤 H A W (named 0) κ u32 .typed rs _ is-rs .0)) $
         rewrite ! 5 (λ (vs : List Val). ‵ (fat fullShare (sliceTy (tyRef erased imm (tyInt w32))) l₈ 0 (only vs))) (is-rs .0 .0) refl $ rewrite ! 0 (λ (vs : List Val). ‵ (ShrSlice (named 0) κ u32 .own rs vs)) (is-rs .0 .0) refl $
         -- `edges_of`, at the ids
-        use3 W (raw (Edges 𝓤 H A mem run .pre (to-edges w i)) ⊛ ‵ (Kept₄ w ro rs)) (goes-ids w ro rs (inside .from-to, inside .in-ids)) $ split ! $
+        use3 W (raw (Edges 𝓤 H A mem run .pre (to-edges w i)) ⊛ ‵ (Kept₄ w ro rs)) (goes-ids w ro rs (inside w e .from-to, inside w e .in-ids)) $ split ! $
         calls-at ! fm (Edges 𝓤 H A mem run) known-edges (to-edges w i) (and-then ! (load ! (from ! (stop !)) (look ! 16 refl)) (and-then ! (load ! (from ! (stop !)) (look ! 8 refl)) (no-more !))) (λ ui.
         use1 W (later (some (λ (ri : RefT (List ℕ)). (Token ⊛ ‵ (ShrSlice (named 0) κ u32 .own ri (ui ∷ []))) ⊛ raw (ensured 𝓤 H A edges.ended (edges.clauses 𝓤 H A mem run) (κ, tt) (i, (w, tt)) tt ri)))) (id⊢ 𝓤 _) $ await ! tt $ pick ! (λ ri.
         split ! $ move ! (1 ∷ []) $ use1 W (raw (fact 𝓤 (now ri ≡ edgesOf w (now i)))) (edges-said w i ri) $ heard ! (now ri ≡ edgesOf w (now i)) (λ ei. split ! $ move ! (1 ∷ []) $
@@ -294,12 +299,12 @@ module _ {M : Type 1} (𝓤 : URA M) (H : Heap 𝓤) (A : Atoms 𝓤) (W : Given
         land ! (from ! (stop !)) (init ! 3 refl (shr-slice-lawful 𝓤 H A W (named 0) κ u32 .typed ri _ is-ri .0)) $
         rewrite ! 3 (λ (vs : List Val). ‵ (fat fullShare (sliceTy (tyRef erased imm (tyInt w32))) l₉ 0 (only vs))) (is-ri .0 .0) refl $ rewrite ! 0 (λ (vs : List Val). ‵ (ShrSlice (named 0) κ u32 .own ri vs)) (is-ri .0 .0) refl $
         -- [the ids' part; the token; what is kept; _9; …; _8; …; _7; …; _6; …; _5; …; _4; …; _3; …; _2; …; _1; …; room for _0; …]
-        assigns ! (agg ! (and-then ! (load ! (from ! (fld ! refl (stop !))) (look-in ! 9 (sub ! 0 refl (whole !)))) (and-then ! (load ! (from ! (fld ! refl (stop !))) (look-in ! 9 (sub ! 5 refl (whole !)))) (and-then ! (load ! (from ! (stop !)) (look ! 7 refl)) (and-then ! (load ! (from ! (stop !)) (look ! 5 refl)) (and-then ! (load ! (from ! (stop !)) (look ! 3 refl)) (no-more !))))))) (from ! (stop !))
-        (init ! 21 refl (LL.lawful D L 𝓤 H A W .typed (made w ro rs ri) _ (LL.owes D L (made w ro rs ri) (fields .0, ((refl, fields .1 .1 .1 .1 .1 .0 .1), (((refl, is-ro .0 .1), is-ro .1), (((refl, is-rs .0 .1), is-rs .1), (((refl, is-ri .0 .1), is-ri .1), tt)))))) .0)) $
+        assigns ! (agg ! (and-then ! (load ! (from ! (stop !)) (look ! 7 refl)) (and-then ! (load ! (from ! (stop !)) (look ! 5 refl)) (and-then ! (load ! (from ! (stop !)) (look ! 3 refl)) (and-then ! (load ! (from ! (fld ! refl (stop !))) (look-in ! 9 (sub ! 5 refl (whole !)))) (and-then ! (load ! (from ! (fld ! refl (stop !))) (look-in ! 9 (sub ! 0 refl (whole !)))) (no-more !))))))) (from ! (stop !))
+        (init ! 21 refl (LL.lawful D L 𝓤 H A W .typed (made w ro rs ri) _ (LL.owes D L (made w ro rs ri) (((refl, is-ro .0 .1), is-ro .1), (((refl, is-rs .0 .1), is-rs .1), (((refl, is-ri .0 .1), is-ri .1), ((refl, n-fits w u is), (LL.owed Z.the-type Z′.the-laws w (u ∷ []) is .0, tt)))))) .0)) $
         returns ! (look ! 21 refl) $ forget ! 3 refl $ forget ! 5 refl $ forget ! 7 refl $ forget ! 9 refl $ forget ! 11 refl $ forget ! 13 refl $ forget ! 15 refl $ forget ! 17 refl $ forget ! 19 refl $ forget ! 21 refl $
         move ! (21 ∷ 22 ∷ []) $ free1 ! $ move ! (19 ∷ 20 ∷ []) $ free1 ! $ move ! (17 ∷ 18 ∷ []) $ free1 ! $ move ! (15 ∷ 16 ∷ []) $ free1 ! $ move ! (13 ∷ 14 ∷ []) $ free1 ! $ move ! (11 ∷ 12 ∷ []) $ free1 ! $
         move ! (9 ∷ 10 ∷ []) $ free1 ! $ move ! (7 ∷ 8 ∷ []) $ free1 ! $ move ! (5 ∷ 6 ∷ []) $ free1 ! $ move ! (3 ∷ 4 ∷ []) $ free1 ! $ free0 ! $
-        by ! (exits w ro rs ri (fields .1 .1 .1 .1 .1 .0 .1) e eo es ei)))))))))))))))))))))))))))
+        by ! (exits w ro rs ri (n-fits w u is) e eo es ei)))))))))))))))))))))))))))
 
 module _ {M : Type 1} (𝓤 : URA M) (H : Heap 𝓤) (A : Atoms 𝓤) (W : Given 𝓤 H A) (mem : Memory → SProp 𝓤) (run : Routine → Fun 𝓤) where
   view-walks : (C : Calls 𝓤 H) (Λ : Loops 𝓤 H) → FmC 𝓤 H (W .laws) C → Triple 𝓤 (C #view·locate) (Locate 𝓤 H A mem run) → Triple 𝓤 (C #view·offsets-of) (Offsets 𝓤 H A mem run) → Triple 𝓤 (C #view·edges-of) (Edges 𝓤 H A mem run)
