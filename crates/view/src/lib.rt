@@ -6,12 +6,15 @@
 // view borrows those parts. "`view` of an absent index, or of a span outside its slices, is BadLattice at it, with n 0 and empty
 // slices".
 use cut::Connection;
+use cut::Cut;
+use cut::Excluded;
+use cut::Expected;
 use refusal::Refusal;
 ghost use mathlib.Core.Path.{_≡_};
 ghost use Prim.Native.Nat.{_≤_};
 ghost use lib.ListN.{length};
-ghost use Rattle.cut.specs.Cut.{zeros};
-ghost use Rattle.cut.specs.Sums.{Connects};
+ghost use Rattle.cut.specs.Cut.{Answers, Excludes, zeros, zero-floats};
+ghost use Rattle.cut.specs.Sums.{Connects, Expects};
 ghost use Rattle.view.specs.Located.{inside, absent, located};
 ghost use Rattle.view.specs.View.{offsetsOf, edgesOf, shown, viewed};
 
@@ -135,5 +138,67 @@ impl<'a> LatticeView<'a> {
         ensures { λ _. ⌜ now (reach .exit) ≡ zeros (length (now (reach .entry))) ⌝ }
     {
         cut::is_connected(self.offsets, self.starts, self.ids, self.n, reach)
+    }
+
+    // The best cut of the word: the ids of its pieces in front of the path.
+    pub fn viterbi(
+        self,
+        scores: &[f64],
+        best: &mut [f64],
+        back: &mut [u32],
+        path: &mut [u32],
+    ) -> Cut
+        ensures { λ r. ⌜ Answers (record { offsets = now (self .entry .offsets); starts = now (self .entry .starts); ids = now (self .entry .ids); n = self .entry .n; scores = now (scores .entry) }) (now (best .entry)) (now (back .entry)) (now (path .entry)) (now (path .exit)) r ⌝ }
+        ensures { λ _. ⌜ (now (best .exit) ≡ zero-floats (length (now (best .entry)))) × (now (back .exit) ≡ zeros (length (now (back .entry)))) ⌝ }
+    {
+        cut::viterbi(
+            self.offsets,
+            self.starts,
+            self.ids,
+            self.n,
+            scores,
+            best,
+            back,
+            path,
+        )
+    }
+
+    // The best score of the word without ever using a piece.
+    pub fn viterbi_excluding(self, scores: &[f64], excluded: u32, best: &mut [f64]) -> Excluded
+        ensures { λ r. ⌜ Excludes (record { offsets = now (self .entry .offsets); starts = now (self .entry .starts); ids = now (self .entry .ids); n = self .entry .n; scores = now (scores .entry) }) excluded (now (best .entry)) r ⌝ }
+        ensures { λ _. ⌜ now (best .exit) ≡ zero-floats (length (now (best .entry))) ⌝ }
+    {
+        cut::viterbi_excluding(
+            self.offsets,
+            self.starts,
+            self.ids,
+            self.n,
+            scores,
+            excluded,
+            best,
+        )
+    }
+
+    // The expected count of every edge of the word over all of its cuts, an entry an edge, and the logarithm of the sum of all cuts.
+    pub fn expectations(
+        self,
+        scores: &[f64],
+        alpha: &mut [f64],
+        beta: &mut [f64],
+        emitted: &mut [f64],
+    ) -> Expected
+        ensures { λ r. ⌜ Expects (record { offsets = now (self .entry .offsets); starts = now (self .entry .starts); ids = now (self .entry .ids); n = self .entry .n; scores = now (scores .entry) }) (now (alpha .entry)) (now (beta .entry)) (now (emitted .entry)) (now (emitted .exit)) r ⌝ }
+        ensures { λ _. ⌜ (now (alpha .exit) ≡ zero-floats (length (now (alpha .entry)))) × (now (beta .exit) ≡ zero-floats (length (now (beta .entry)))) ⌝ }
+    {
+        cut::expectations(
+            self.offsets,
+            self.starts,
+            self.ids,
+            self.n,
+            scores,
+            alpha,
+            beta,
+            emitted,
+        )
     }
 }
