@@ -2,7 +2,9 @@
 use mathlib.Core.List.{List}
 use Prim.Native.Nat.{ℕ, _-_}
 use lib.ListN.{take, drop}
+use lib.Ieee.{Float}
 use denote.Ref.{now}
+use Rattle.cut.specs.Cut.{Lent}
 use Rattle.view.specs.declared.Seen.{Seen}
 use Rattle.view.specs.declared.Located.{Located}
 use Rattle.view.specs.declared.LatticeView.{LatticeView}
@@ -35,3 +37,7 @@ parted starts ids offsets word = record { offsets = offsetsOf word offsets; star
 
 abbrev pub viewed : List ℕ → List ℕ → List ℕ → List ℕ → ℕ → Shown
 viewed starts ids offsets spans index = parted starts ids offsets (located starts ids offsets spans index)
+
+-- what a view lends, beside the scores, to a call on one word's lattice
+abbrev pub lentOf : Shown → List Float → Lent
+lentOf x scores = record { offsets = x .offsets; starts = x .starts; ids = x .ids; n = x .n; scores = scores }

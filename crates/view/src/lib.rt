@@ -16,7 +16,7 @@ ghost use lib.ListN.{length};
 ghost use Rattle.cut.specs.Cut.{Answers, Excludes, zeros, zero-floats};
 ghost use Rattle.cut.specs.Sums.{Connects, Expects};
 ghost use Rattle.view.specs.Located.{inside, absent, located};
-ghost use Rattle.view.specs.View.{offsetsOf, edgesOf, shown, viewed};
+ghost use Rattle.view.specs.View.{offsetsOf, edgesOf, shown, viewed, lentOf};
 
 // The lattice is there, or why not.
 pub enum Seen {
@@ -131,6 +131,7 @@ pub fn view<'a>(
     }
 }
 
+// Thin functions: each takes the view apart, and calls what works on plain slices.
 impl<'a> LatticeView<'a> {
     // Whether some chain of edges leads from the first position of the word to its last.
     pub fn is_connected(self, reach: &mut [u32]) -> Connection
@@ -148,7 +149,7 @@ impl<'a> LatticeView<'a> {
         back: &mut [u32],
         path: &mut [u32],
     ) -> Cut
-        ensures { λ r. ⌜ Answers (record { offsets = now (self .entry .offsets); starts = now (self .entry .starts); ids = now (self .entry .ids); n = self .entry .n; scores = now (scores .entry) }) (now (best .entry)) (now (back .entry)) (now (path .entry)) (now (path .exit)) r ⌝ }
+        ensures { λ r. ⌜ Answers (lentOf (shown (self .entry)) (now (scores .entry))) (now (best .entry)) (now (back .entry)) (now (path .entry)) (now (path .exit)) r ⌝ }
         ensures { λ _. ⌜ (now (best .exit) ≡ zero-floats (length (now (best .entry)))) × (now (back .exit) ≡ zeros (length (now (back .entry)))) ⌝ }
     {
         cut::viterbi(
@@ -165,7 +166,7 @@ impl<'a> LatticeView<'a> {
 
     // The best score of the word without ever using a piece.
     pub fn viterbi_excluding(self, scores: &[f64], excluded: u32, best: &mut [f64]) -> Excluded
-        ensures { λ r. ⌜ Excludes (record { offsets = now (self .entry .offsets); starts = now (self .entry .starts); ids = now (self .entry .ids); n = self .entry .n; scores = now (scores .entry) }) excluded (now (best .entry)) r ⌝ }
+        ensures { λ r. ⌜ Excludes (lentOf (shown (self .entry)) (now (scores .entry))) excluded (now (best .entry)) r ⌝ }
         ensures { λ _. ⌜ now (best .exit) ≡ zero-floats (length (now (best .entry))) ⌝ }
     {
         cut::viterbi_excluding(
@@ -179,7 +180,8 @@ impl<'a> LatticeView<'a> {
         )
     }
 
-    // The expected count of every edge of the word over all of its cuts, an entry an edge, and the logarithm of the sum of all cuts.
+    // The expected count of every edge of the word over all of its cuts, an entry an edge, and the logarithm of the sum of all
+    // cuts.
     pub fn expectations(
         self,
         scores: &[f64],
@@ -187,7 +189,7 @@ impl<'a> LatticeView<'a> {
         beta: &mut [f64],
         emitted: &mut [f64],
     ) -> Expected
-        ensures { λ r. ⌜ Expects (record { offsets = now (self .entry .offsets); starts = now (self .entry .starts); ids = now (self .entry .ids); n = self .entry .n; scores = now (scores .entry) }) (now (alpha .entry)) (now (beta .entry)) (now (emitted .entry)) (now (emitted .exit)) r ⌝ }
+        ensures { λ r. ⌜ Expects (lentOf (shown (self .entry)) (now (scores .entry))) (now (alpha .entry)) (now (beta .entry)) (now (emitted .entry)) (now (emitted .exit)) r ⌝ }
         ensures { λ _. ⌜ (now (alpha .exit) ≡ zero-floats (length (now (alpha .entry)))) × (now (beta .exit) ≡ zero-floats (length (now (beta .entry)))) ⌝ }
     {
         cut::expectations(
