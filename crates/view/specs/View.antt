@@ -1,11 +1,13 @@
 -- What a view shows of the slices that it borrows, and what it is to show. Definitions only.
-use mathlib.Core.List.{List}
+use mathlib.Core.List.{List, []}
 use Prim.Native.Nat.{ℕ, _-_}
 use lib.ListN.{take, drop}
 use lib.Ieee.{Float}
 use denote.Ref.{now}
+use Rattle.refusal.specs.declared.Refusal.the-variants.{BadLattice}
 use Rattle.cut.specs.Cut.{Lent}
 use Rattle.view.specs.declared.Seen.{Seen}
+use Rattle.view.specs.declared.Seen.the-variants.{Refused}
 use Rattle.view.specs.declared.Located.{Located}
 use Rattle.view.specs.declared.LatticeView.{LatticeView}
 use Rattle.view.specs.Located.{located}
@@ -37,6 +39,10 @@ parted starts ids offsets word = record { offsets = offsetsOf word offsets; star
 
 abbrev pub viewed : List ℕ → List ℕ → List ℕ → List ℕ → ℕ → Shown
 viewed starts ids offsets spans index = parted starts ids offsets (located starts ids offsets spans index)
+
+-- no lattice: "n 0 and empty slices"
+abbrev pub nothing : ℕ → Shown
+nothing index = record { offsets = []; starts = []; ids = []; n = 0; seen = Refused (BadLattice index) }
 
 -- what a view lends, beside the scores, to a call on one word's lattice
 abbrev pub lentOf : Shown → List Float → Lent
