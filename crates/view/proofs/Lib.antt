@@ -1,5 +1,6 @@
 pub mod Seeing
 pub mod Showing
 pub mod Tokens
+pub mod Said
 pub mod Held
 pub mod Theorems
