@@ -2,5 +2,6 @@ pub mod Seeing
 pub mod Showing
 pub mod Tokens
 pub mod Said
+pub mod Cache
 pub mod Held
 pub mod Theorems

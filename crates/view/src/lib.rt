@@ -204,3 +204,21 @@ impl<'a> LatticeView<'a> {
         )
     }
 }
+
+// The best cut of one word of a cache. Its parameters are plain slices, so who calls it needs no walk by hand.
+pub fn viterbi_at<'a>(
+    starts: &'a [u32],
+    ids: &'a [u32],
+    offsets: &'a [u32],
+    spans: &[u32],
+    index: usize,
+    scores: &[f64],
+    best: &mut [f64],
+    back: &mut [u32],
+    path: &mut [u32],
+) -> Cut
+    ensures { λ r. ⌜ Answers (lentOf (viewed (now (starts .entry)) (now (ids .entry)) (now (offsets .entry)) (now (spans .entry)) index) (now (scores .entry))) (now (best .entry)) (now (back .entry)) (now (path .entry)) (now (path .exit)) r ⌝ }
+    ensures { λ _. ⌜ (now (best .exit) ≡ zero-floats (length (now (best .entry)))) × (now (back .exit) ≡ zeros (length (now (back .entry)))) ⌝ }
+{
+    view(starts, ids, offsets, spans, index).viterbi(scores, best, back, path)
+}
