@@ -18,17 +18,16 @@ use ghost.Atoms.{Atoms, sem}
 use contract.Lifetimes.{Lfts, Shares}
 use contract.Monad.{Fun, fact}
 use contract.Running.{givenOf, tables, tablesOf}
-use types.Kit.{Given, Item, ‵, raw, _⊛_, given, ⋆, some, later, _$_, _∵_, !, qed, by, move, drop, rewrite, use1, use2, use3, split, split3, join, learn, pick, fsplit, fjoin, suffices, frame, await, done}
+use types.Kit.{Given, Item, ‵, raw, _⊛_, given, ⋆, some, later, _$_, _∵_, !, qed, by, move, drop, rewrite, use1, use2, use3, split, join, learn, pick, fsplit, fjoin, suffices, frame, await, done}
 use types.Part.{agg, whole, sub, look-in}
 use types.Run.{look, init, forget, stop, fld, from, load, of-opd, and-then, no-more, assigns, land, returns, enter, alloc1, alloc0, params1, pass1, pass0, free1, free0}
 use sound.WpLaws.{FmC, fmOf, WpFn-mono}
-use denote.RattleType.{RattleType, owns}
 use denote.Laws.{Is, shows as shown-by}
 use denote.Plain.{uint-vals, uint-tells, uint-makes}
 use denote.Builtin.{u32, usize}
 use denote.Ref.{RefT, NamedLft, now}
 use denote.Signature.{plain, namedLft}
-use denote.Slice.{sliceVal, sliceTy, ShrSlice, slice-vals, shr-slice-tells, shr-slice-lawful, shr-slice-copy}
+use denote.Slice.{sliceVal, sliceTy, ShrSlice, slice-vals, shr-slice-tells, shr-slice-lawful}
 use denote.Steps.{owned, peeks, heard, nothing}
 use denote.Struct.Declared.{Declared}
 use denote.Struct.Laws as LL
@@ -48,6 +47,7 @@ use Rattle.view.specs.declared.Located.{Located}
 use Rattle.view.specs.declared.LatticeView.{LatticeView}
 use Rattle.view.proofs.Seeing.{Within, within}
 use Rattle.view.proofs.Showing.{shows}
+use Rattle.view.proofs.Cache.{Cache, twice}
 use Rattle.view.proofs.Tokens.{first, second, third, in-three, in-one}
 use Rattle.view.proofs.LatticeView as T
 use Rattle.view.proofs.LatticeView.Laws as T′
@@ -129,7 +129,7 @@ module _ {M : Type 1} (𝓤 : URA M) (H : Heap 𝓤) (A : Atoms 𝓤) (W : Given
   Own r = ShrSlice (named 0) κ u32 .own r (val r ∷ [])
 
   abbrev Owns : Fml
-  Owns = owns (ShrSlice (named 0) κ u32 ∷ ShrSlice (named 0) κ u32 ∷ ShrSlice (named 0) κ u32 ∷ ShrSlice (named 1) κ′ u32 ∷ usize ∷ []) a at
+  Owns = Cache κ κ′ s i o p x
 
   abbrev OwnW : Located → Fml
   OwnW w = Z.the-row .own w (mach w ∷ [])
@@ -157,22 +157,12 @@ module _ {M : Type 1} (𝓤 : URA M) (H : Heap 𝓤) (A : Atoms 𝓤) (W : Given
   abbrev to-locate : Locate 𝓤 H A mem run .Ghost
   to-locate = (((κ, (κ, (κ, (κ′, tt)))), (first q, (second q, (third q, (q′, tt)))), tt, a, at), tt)
 
-  thrice : (r : RefT (List ℕ)) → ent 𝓤 (sem 𝓤 H A (Own r)) (sep 𝓤 (sem 𝓤 H A (Own r)) (sep 𝓤 (sem 𝓤 H A (Own r)) (sem 𝓤 H A (Own r))))
-  thrice r =
-      qed W (‵ (Own r) ∷ []) ∵ use1 W (‵ (Own r) ⊛ ‵ (Own r)) (shr-slice-copy 𝓤 H A W (named 0) κ u32 .twice r (val r ∷ [])) $ split ! $
-      use1 W (‵ (Own r) ⊛ ‵ (Own r)) (shr-slice-copy 𝓤 H A W (named 0) κ u32 .twice r (val r ∷ [])) $ split ! $ done !
-
   copies : ent 𝓤 (sem 𝓤 H A Owns) (sep 𝓤 (sem 𝓤 H A Owns) (sem 𝓤 H A Kept₁))
   copies =
-      qed W (‵ Owns ∷ []) ∵ fsplit ! $ use1 W (‵ (Own s) ⊛ (‵ (Own s) ⊛ ‵ (Own s))) (thrice s) $ split3 ! $
-      move ! (3 ∷ []) $ fsplit ! $ use1 W (‵ (Own i) ⊛ (‵ (Own i) ⊛ ‵ (Own i))) (thrice i) $ split3 ! $
-      move ! (3 ∷ []) $ fsplit ! $ use1 W (‵ (Own o) ⊛ (‵ (Own o) ⊛ ‵ (Own o))) (thrice o) $ split3 ! $
-      move ! (3 ∷ []) $ fsplit ! $ use1 W (‵ (ShrSlice (named 1) κ′ u32 .own p (val p ∷ [])) ⊛ ‵ (ShrSlice (named 1) κ′ u32 .own p (val p ∷ []))) (shr-slice-copy 𝓤 H A W (named 1) κ′ u32 .twice p (val p ∷ [])) $ split ! $
-      -- [spans, twice; the index; offsets, ids and starts, each thrice]
-      move ! (2 ∷ []) $ fsplit ! $ drop ! $ drop ! $ move ! (5 ∷ 2 ∷ []) $ fjoin ! $ move ! (7 ∷ 0 ∷ []) $ fjoin ! $
-      -- [the parts; spans, offsets, ids and starts, each twice]
-      nothing ! $ owned ! usize (Is usize) (uint-makes 𝓤 H A W w64) x _ (refl, x-fits) $ fjoin ! $ move ! (2 ∷ 0 ∷ []) $ fjoin ! $ move ! (3 ∷ 0 ∷ []) $ fjoin ! $ move ! (4 ∷ 0 ∷ []) $ fjoin ! $ move ! (5 ∷ 0 ∷ []) $ fjoin ! $
-      nothing ! $ owned ! usize (Is usize) (uint-makes 𝓤 H A W w64) x _ (refl, x-fits) $ fjoin ! $ move ! (3 ∷ 0 ∷ []) $ fjoin ! $ move ! (3 ∷ 0 ∷ []) $ fjoin ! $ move ! (3 ∷ 0 ∷ []) $ fjoin ! $ move ! (3 ∷ 0 ∷ []) $ fjoin ! $ done !
+      qed W (‵ Owns ∷ []) ∵ use1 W (‵ Owns ⊛ ‵ Owns) (twice κ κ′ s i o p x 𝓤 H A W x-fits) $ split ! $ use1 W (‵ Owns ⊛ ‵ Owns) (twice κ κ′ s i o p x 𝓤 H A W x-fits) $ split ! $
+      fsplit ! $ move ! (1 ∷ []) $ fsplit ! $ move ! (1 ∷ []) $ fsplit ! $ move ! (1 ∷ []) $ drop ! $
+      -- [offsets; ids; starts; the parameters, twice]
+      move ! (1 ∷ 0 ∷ []) $ fjoin ! $ move ! (1 ∷ 0 ∷ []) $ fjoin ! $ move ! (1 ∷ 2 ∷ []) $ done !
 
   asked : ent 𝓤 (⋆ 𝓤 H A (Tokens ∷ ‵ Owns ∷ [])) (Locate 𝓤 H A mem run .pre to-locate)
   asked = qed W (Tokens ∷ ‵ Owns ∷ []) ∵ join ! $ frame ! $ done !
