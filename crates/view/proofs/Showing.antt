@@ -4,7 +4,7 @@ use mathlib.Core.List.{List}
 use Prim.Native.Nat.{ℕ}
 use Rattle.view.specs.declared.Located.{Located}
 use Rattle.view.specs.Located.{located}
-use Rattle.view.specs.View.{offsetsOf, edgesOf, Shown, parted, viewed}
+use Rattle.view.specs.View.{offsetsOf, edgesOf, parted, viewed}
 
 module _ (starts ids offsets spans : List ℕ) (index : ℕ) where
   pub shows : (word : Located) (o s i : List ℕ) → word ≡ located starts ids offsets spans index → o ≡ offsetsOf word offsets → s ≡ edgesOf word starts → i ≡ edgesOf word ids

@@ -1,7 +1,7 @@
 -- `view::view` meets its contract: a walk of its MIR, by hand. The word is located, its three parts are made by covered functions, and the view is made of them.
 -- What each slice owns is had thrice: for `locate`, for its part and for the exit. What a result owns says its machine value, which is then written out where it stands.
 -- Assumes nothing.
-use mathlib.Core.Path.{_≡_, refl, ap, subst, sym}
+use mathlib.Core.Path.{_≡_, refl, subst, sym}
 use Prim.Native.Nat.{ℕ, _≤_, _<_, _^_}
 use mathlib.Core.List.{List, [], _∷_}
 use lib.ListN.{length}
@@ -20,12 +20,12 @@ use contract.Monad.{Fun, fact}
 use contract.Running.{givenOf, tables, tablesOf}
 use types.Kit.{Given, Item, ‵, raw, _⊛_, given, ⋆, some, later, _$_, _∵_, !, qed, by, move, drop, rewrite, use1, use2, use3, split, join, learn, pick, fsplit, fjoin, suffices, frame, await, done}
 use types.Part.{agg, whole, sub, look-in}
-use types.Run.{look, init, forget, stop, fld, from, load, of-opd, and-then, no-more, assigns, land, returns, enter, alloc1, alloc0, params1, pass1, pass0, free1, free0}
+use types.Run.{look, init, forget, stop, fld, from, load, and-then, no-more, assigns, land, returns, enter, alloc1, alloc0, params1, pass1, pass0, free1, free0}
 use sound.WpLaws.{FmC, fmOf, WpFn-mono}
 use denote.Laws.{Is, shows as shown-by}
 use denote.Plain.{uint-vals, uint-tells, uint-makes}
 use denote.Builtin.{u32, usize}
-use denote.Ref.{RefT, NamedLft, now}
+use denote.Ref.{RefT, now}
 use denote.Signature.{plain, namedLft}
 use denote.Slice.{sliceVal, sliceTy, ShrSlice, slice-vals, shr-slice-tells, shr-slice-lawful}
 use denote.Steps.{owned, peeks, heard, nothing}

@@ -22,7 +22,7 @@ use types.Kit.{Given, Item, ‵, raw, _⊛_, ⋆, some, later, _$_, _∵_, !, qe
 use types.Part.{agg, whole, sub, look-in}
 use types.Run.{look, init, forget, stop, hop, fld, from, load, addr, of-opd, and-then, no-more, assigns, land, returns, enter, alloc1, alloc0, params1, pass1, pass0, free1, free0}
 use sound.WpLaws.{FmC, fmOf, WpFn-mono}
-use denote.RattleType.{RattleType, owns}
+use denote.RattleType.{owns}
 use denote.Laws.{Is, shows}
 use denote.Builtin.{u32}
 use denote.Ref.{RefT, NamedLft, now}
@@ -30,7 +30,6 @@ use denote.Signature.{plain, namedLft}
 use denote.Slice.{sliceVal, MutSlice, finally, slice-vals, mut-slice-tells, mut-slice-lawful}
 use denote.Steps.{peeks, heard, nothing}
 use denote.Enum.Laws as EL
-use denote.Struct.Declared.{Declared}
 use denote.Struct.Laws as LL
 use denote.Triple.Statement.{Contract, Triple}
 use denote.Triple.Call.{calls-at}
