@@ -43,3 +43,7 @@ module _ (starts ids offsets spans : List ℕ) (index : ℕ) where
   pub outside-viewed : 4 * index + 4 ≤ length spans → inside starts ids offsets (getD spans (4 * index) 0) (getD spans (4 * index + 1) 0) (getD spans (4 * index + 2) 0) (getD spans (4 * index + 3) 0) ≡ false
       → viewed starts ids offsets spans index ≡ nothing index
   outside-viewed h e = ap (parted starts ids offsets) (outside starts ids offsets spans index h refl refl refl refl e)
+
+-- and no call takes such a view for a lattice
+pub nothing-unformed : (index : ℕ) (scores : List Float) → Formed (lentOf (nothing index) scores) → ⊥
+nothing-unformed index scores formed = let many = formed .many in omega arith

@@ -205,7 +205,8 @@ impl<'a> LatticeView<'a> {
     }
 }
 
-// The best cut of one word of a cache. Its parameters are plain slices, so who calls it needs no walk by hand.
+// The best cut of one word of a cache. Its parameters are plain slices, so who calls it needs no walk by hand. A word that is not
+// seen has no offsets, so its cut is BadLattice at place 0, as of any one word's lattice; `view` tells the index.
 pub fn viterbi_at<'a>(
     starts: &'a [u32],
     ids: &'a [u32],
