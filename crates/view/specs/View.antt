@@ -35,7 +35,8 @@ shown v = record { offsets = now (v .offsets); starts = now (v .starts); ids = n
 
 -- a word's parts of a cache's slices
 abbrev pub parted : List ℕ → List ℕ → List ℕ → Located → Shown
-parted starts ids offsets word = record { offsets = offsetsOf word offsets; starts = edgesOf word starts; ids = edgesOf word ids; n = word .n; seen = word .seen }
+parted starts ids offsets word =
+    record { offsets = offsetsOf word offsets; starts = edgesOf word starts; ids = edgesOf word ids; n = word .n; seen = word .seen }
 
 abbrev pub viewed : List ℕ → List ℕ → List ℕ → List ℕ → ℕ → Shown
 viewed starts ids offsets spans index = parted starts ids offsets (located starts ids offsets spans index)
