@@ -6,9 +6,10 @@
 
 `rt ci` tries an edit of must-fail/ by checking its whole crate from nothing, which takes as long as proving the crate. So a crate
 that takes long has its edits in must-fail/more, but for those that document 01 names. They are tried here, over the kit's incremental
-folder. It is filled with what
-the proved crate's library holds of checked modules. First the crate is checked as it is, and has to be proved; then each edit, of
-which only what it changes is checked again. A program has no library, so all of it is checked once.
+folder. It is filled with what the proved crate's library holds of checked modules. First the crate is checked as it is, and has to be
+proved; then each edit, of which only what it changes is checked again. A program has no library, so all of it is checked once.
+
+What the prover says of an edit is kept in target/edits/NAME/EDIT.log, so that one can read whether it was refused for what it means.
 
 An edit is written as for `rt`: a line `file: PATH`, then pairs of `old: TEXT` and `new: TEXT`. The old text stands once in the file.
 """
@@ -108,18 +109,26 @@ def fill(crate, room, folder):
 
 
 def check(crate, room):
-    """The prover's word on a crate: its exit status, its last line, the place of its first message, and seconds."""
+    """The prover's word on a crate: its exit status, its verdict, the place of its first message, seconds, and all that it said."""
     began = time.monotonic()
     ended = subprocess.run(["rt", "dev", crate], cwd=room, stdin=subprocess.DEVNULL, capture_output=True)
     said = (ended.stdout + ended.stderr).decode(errors="replace").splitlines()
     verdict = next((line for line in reversed(said) if line.startswith("logic=")), "no verdict")
     first = next((line.split(": error")[0] for line in said if ": error" in line), "")
-    return ended.returncode, verdict, first.replace(f"{room}/crates/{crate}/", ""), round(time.monotonic() - began)
+    seconds = round(time.monotonic() - began)
+    return ended.returncode, verdict, first.replace(f"{room}/crates/{crate}/", ""), seconds, "\n".join(said)
+
+
+def keep(crate, edit, said):
+    """Keeps what the prover said of an edit."""
+    folder = ROOT / "target/edits" / crate
+    folder.mkdir(parents=True, exist_ok=True)
+    (folder / f"{edit.stem}.log").write_text(said + "\n")
 
 
 def try_crate(crate, room, say):
     """Whether the crate is proved as it is, and how many of its edits are refused."""
-    status, verdict, first, seconds = check(crate, room)
+    status, verdict, first, seconds, _ = check(crate, room)
     if status != 0 or not verdict.startswith("logic=proved"):
         say(f"{crate}: NOT PROVED as it is ({verdict}; {first})")
         return False, 0
@@ -132,7 +141,8 @@ def try_crate(crate, room, say):
         except Bad as why:
             say(f"{name}: BAD EDIT: {why}")
             continue
-        status, verdict, first, seconds = check(crate, room)
+        status, verdict, first, seconds, said = check(crate, room)
+        keep(crate, edit, said)
         for path, text in before.items():
             path.write_text(text)
         if status == 1 and verdict.startswith("logic=not-proved"):
