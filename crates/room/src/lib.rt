@@ -5,14 +5,15 @@
 // places of the trie, and a word a span of the cache.
 use make::Trained;
 use settings::Settings;
-ghost use lib.ListN.{take};
-ghost use Prim.Native.Nat.{_*_};
-ghost use Rattle.listing.specs.Start.{countOf};
+use stored::Stored;
+ghost use mathlib.Core.Path.{_≡_};
+ghost use Prim.Native.Nat.{_*_, min};
 ghost use Rattle.training.specs.Train.{Answers};
-ghost use Rattle.room.specs.Room.{rooms};
+ghost use Rattle.stored.specs.Stored.{tables};
+ghost use Rattle.room.specs.Room.{rooms, asked, lentBy};
 
 // Trains on words that are lent, with specials, and writes the tokens to slices that are lent.
-pub fn train(
+fn train(
     settings: Settings,
     texts: &[u8],
     specials: &[u32],
@@ -23,7 +24,7 @@ pub fn train(
     tokens: &mut [u32],
     token_scores: &mut [f64],
 ) -> Trained
-    ensures { λ r. ⌜ Answers (record { settings = settings; texts = now (texts .entry); specials = now (specials .entry); text = now (text .entry); words = take (2 * (countOf (now (words .entry)) (now (frequencies .entry)))) (now (words .entry)); frequencies = take (countOf (now (words .entry)) (now (frequencies .entry))) (now (frequencies .entry)) }) rooms (record { bytes = now (bytes .entry); tokens = now (tokens .entry); scores = now («token_scores» .entry) }) (record { bytes = now (bytes .exit); tokens = now (tokens .exit); scores = now («token_scores» .exit) }) r ⌝ }
+    ensures { λ r. ⌜ Answers (asked settings (now (texts .entry)) (now (specials .entry)) (now (text .entry)) (now (words .entry)) (now (frequencies .entry))) rooms (record { bytes = now (bytes .entry); tokens = now (tokens .entry); scores = now («token_scores» .entry) }) (record { bytes = now (bytes .exit); tokens = now (tokens .exit); scores = now («token_scores» .exit) }) r ⌝ }
 {
     let mut kept = [0u32; 512];
     let mut counts = [0u64; 256];
@@ -68,6 +69,56 @@ pub fn train(
         &mut starts,
         &mut ids,
         &mut spans,
+        bytes,
+        tokens,
+        token_scores,
+    )
+}
+
+// The lesser.
+fn least(a: usize, b: usize) -> usize
+    ensures { λ r. ⌜ r ≡ min a b ⌝ }
+{
+    if a < b { a } else { b }
+}
+
+// How many numbers the spans of so many texts are, of those that are lent.
+fn pairs(texts: usize, numbers: usize) -> usize
+    ensures { λ r. ⌜ r ≡ min (2 * texts) numbers ⌝ }
+{
+    if numbers / 2 < texts {
+        return numbers;
+    }
+    2 * texts
+}
+
+// Trains on what was stored in slices: training is lent the part of each that was filled.
+pub fn learn(
+    stored: Stored,
+    texts: &[u8],
+    specials: &[u32],
+    text: &[u8],
+    words: &[u32],
+    frequencies: &[u64],
+    bytes: &mut [u8],
+    tokens: &mut [u32],
+    token_scores: &mut [f64],
+) -> Trained
+    ensures { λ r. ⌜ Answers (lentBy (tables stored (now (texts .entry)) (now (specials .entry)) (now (text .entry)) (now (words .entry)) (now (frequencies .entry)))) rooms (record { bytes = now (bytes .entry); tokens = now (tokens .entry); scores = now («token_scores» .entry) }) (record { bytes = now (bytes .exit); tokens = now (tokens .exit); scores = now («token_scores» .exit) }) r ⌝ }
+{
+    let settings = stored.settings;
+    let a = least(stored.specials.bytes, texts.len());
+    let b = pairs(stored.specials.count, specials.len());
+    let c = least(stored.words.bytes, text.len());
+    let d = pairs(stored.words.count, words.len());
+    let e = least(stored.words.count, frequencies.len());
+    train(
+        settings,
+        &texts[..a],
+        &specials[..b],
+        &text[..c],
+        &words[..d],
+        &frequencies[..e],
         bytes,
         tokens,
         token_scores,
