@@ -1,4 +1,3 @@
-pub mod Floats
 pub mod Filled
 pub mod InTurn
 pub mod Turns

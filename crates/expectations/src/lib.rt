@@ -3,6 +3,8 @@
 // A float's bits depend on the order of its sums, so that order is lattice.rs's at every place: "ends rising, starts rising,
 // backward pass ends falling". The sums are taken pairwise, each by one exp and one ln_1p: lattice.rs measured that this is
 // the quicker way where a position has a handful of edges.
+use floats::is_finite;
+use floats::lowest;
 use formed::read;
 use math::exp;
 use math::ln_1p;
@@ -12,26 +14,12 @@ ghost use mathlib.Core.List.{_++_};
 ghost use Prim.Native.Nat.{_+_, _≤_, _<_};
 ghost use lib.ListN.{length, getD, drop, set, replicate, take};
 ghost use lib.Ieee.{inf, nan};
-ghost use lib.Ieee.Scale.{finite};
 ghost use Rattle.math.specs.Steps.{_⊕_};
 ghost use Rattle.formed.specs.Word.{WordFormed};
 ghost use Rattle.connected.specs.Word.{Starting, Naming};
 ghost use Rattle.expectations.specs.LogAdd.{above, logAdd};
 ghost use Rattle.expectations.specs.Edges.{Edge};
 ghost use Rattle.expectations.specs.Sums as Sums;
-
-fn minus_infinity() -> f64
-    ensures { λ r. ⌜ r ≡ inf true ⌝ }
-{
-    -1.0 / 0.0
-}
-
-// Neither a NaN nor an infinity.
-fn is_finite(x: f64) -> bool
-    ensures { λ r. ⌜ r ≡ finite x ⌝ }
-{
-    x > minus_infinity() && x < 1.0 / 0.0
-}
 
 // The greater of two, and what the smaller adds to it.
 fn above(hi: f64, lo: f64) -> f64
@@ -44,7 +32,7 @@ fn above(hi: f64, lo: f64) -> f64
 pub fn log_add(a: f64, b: f64) -> f64
     ensures { λ r. ⌜ r ≡ logAdd a b ⌝ }
 {
-    let absent = minus_infinity();
+    let absent = lowest();
     if a == absent {
         return b;
     }
@@ -75,7 +63,7 @@ fn forward_end(
     requires { ⌜ Starting (now starts) (length (now alpha)) low high × Naming (now ids) (length (now scores)) low high ⌝ }
     ensures { λ r. ⌜ r ≡ Sums.forwardSum (now (starts .entry)) (now (ids .entry)) (now (scores .entry)) (now (alpha .entry)) low high ⌝ }
 {
-    let mut sum = minus_infinity();
+    let mut sum = lowest();
     let mut k = low;
     while k < high {
         sum = log_add(sum, until(starts, ids, scores, alpha, k));
@@ -167,7 +155,7 @@ fn backward(
     requires { ⌜ WordFormed (now offsets) (now starts) (now ids) (length (now scores)) n × (n < length (now beta)) ⌝ }
     ensures { λ _. ⌜ Sums.Holds (now (offsets .entry)) (now (starts .entry)) (now (ids .entry)) (now (scores .entry)) n n (now (beta .exit)) ⌝ }
 {
-    fill(beta, minus_infinity(), n);
+    fill(beta, lowest(), n);
     beta[n] = 0.0;
     let mut done = 0;
     while done < n {
@@ -258,7 +246,7 @@ pub fn expectations_core(
     let z = alpha[n];
     if !is_finite(z) {
         fill(emitted, 0.0, starts.len());
-        return minus_infinity();
+        return lowest();
     }
     backward(offsets, starts, ids, scores, beta, n);
     let positions = n + 1;

@@ -10,8 +10,9 @@ use refusal::Refusal;
 use seed::Answer;
 use seed::seed;
 use settings::Settings;
+use slots::lesser;
 ghost use mathlib.Core.Path.{_≡_};
-ghost use Prim.Native.Nat.{_*_, _≤_, _<_, min};
+ghost use Prim.Native.Nat.{_≤_, _<_};
 ghost use lib.ListN.{length};
 ghost use Rattle.laws.specs.Tests.{Says};
 ghost use Rattle.spans.specs.Spans.{many, bytes};
@@ -36,26 +37,19 @@ pub enum Checked {
     Refused(Refusal),
 }
 
-// The smaller of two numbers.
-fn smaller(a: usize, b: usize) -> usize
-    ensures { λ r. ⌜ r ≡ min a b ⌝ }
-{
-    if a <= b { a } else { b }
-}
-
 // How many words are lent.
 pub fn count(words: &[u32], frequencies: &[u64]) -> usize
     ensures { λ r. ⌜ r ≡ countOf (now (words .entry)) (now (frequencies .entry)) ⌝ }
 {
-    smaller(spans::count(words), frequencies.len())
+    lesser(spans::count(words), frequencies.len())
 }
 
 // How many positions all slices have that a position indexes.
 pub fn positions(chars: &[u32], places: &[u32], order: &[u32], work: &[u32], ranks: &[u64]) -> usize
     ensures { λ r. ⌜ r ≡ positionsOf (now (chars .entry)) (now (places .entry)) (now (order .entry)) (now (work .entry)) (now (ranks .entry)) ⌝ }
 {
-    let sorted = smaller(order.len(), smaller(work.len(), ranks.len()));
-    smaller(chars.len(), smaller(places.len() / 3, sorted))
+    let sorted = lesser(order.len(), lesser(work.len(), ranks.len()));
+    lesser(chars.len(), lesser(places.len() / 3, sorted))
 }
 
 // How many bytes a word has, as its span says: a number of 32 bits.

@@ -6,21 +6,6 @@ use lib.Ieee.Scale.{finite}
 use Rattle.math.specs.Steps.{_⊖_, _⊗_, zero as nought}
 use Rattle.losses.specs.Losses.{larger, penalty, loss}
 
--- ---- finite: above minus infinity and below plus infinity
-finite-between : (x : Float) → cond (lt (inf true) x) (lt x (inf false)) false ≡ finite x
-unfolding lt
-finite-between nan = refl
-finite-between (inf true) = refl
-finite-between (inf false) = refl
-finite-between (fin s m e) = refl
-
-pub finite-above : (x low high : Float) → low ≡ inf true → high ≡ inf false → lt low x ≡ true → {r : Bool} → r ≡ lt x high → r ≡ finite x
-finite-above x low high e f t {r} h =
-    h ∙ ap (lt x) f ∙ sym (ap (λ (b : Bool). cond b (lt x (inf false)) false) (ap (λ (y : Float). lt y x) (sym e) ∙ t)) ∙ finite-between x
-
-pub finite-not-above : (x low : Float) → low ≡ inf true → lt low x ≡ false → false ≡ finite x
-finite-not-above x low e t = sym (ap (λ (b : Bool). cond b (lt x (inf false)) false) (ap (λ (y : Float). lt y x) (sym e) ∙ t)) ∙ finite-between x
-
 -- ---- the penalty
 module _ (score other : Float) where
   penalty-by : (b : Bool) → finite other ≡ b → penalty score other ≡ cond b (larger (score ⊖ other)) (inf false)

@@ -6,6 +6,8 @@
 //
 // Losses are given by their bits, which order as the losses do: proofs/Theorems.antt.
 use builder::build_words;
+use floats::highest;
+use floats::is_finite;
 use formed::read;
 use viterbi::excluding_core;
 ghost use mathlib.Core.Path.{_≡_};
@@ -13,30 +15,9 @@ ghost use mathlib.Core.Bool.{true, false};
 ghost use Prim.Native.Nat.{_<_};
 ghost use lib.ListN.{length, getD};
 ghost use lib.Ieee.{nan, inf};
-ghost use lib.Ieee.Scale.{finite};
 ghost use Rattle.spans.specs.Spans.{many, charsAt, listed};
 ghost use Rattle.losses.specs.Losses as Losses;
 ghost use Rattle.losses.specs.Steps.{Lent, Given, Work};
-
-// Minus infinity, and plus infinity.
-fn lowest() -> f64
-    ensures { λ r. ⌜ r ≡ inf true ⌝ }
-{
-    -1.0 / 0.0
-}
-
-fn highest() -> f64
-    ensures { λ r. ⌜ r ≡ inf false ⌝ }
-{
-    1.0 / 0.0
-}
-
-// Whether a float is finite. NaN is below and above nothing.
-fn is_finite(x: f64) -> bool
-    ensures { λ r. ⌜ r ≡ finite x ⌝ }
-{
-    if x > lowest() { x < highest() } else { false }
-}
 
 // What each use of a piece would cost: nothing where the alternative is as good.
 fn penalty(score: f64, other: f64) -> f64

@@ -14,17 +14,10 @@ use inputs::Checked;
 use lent::Scored;
 use lent::check_scores;
 use refusal::Refusal;
+use slots::lesser;
 ghost use mathlib.Core.Path.{_≡_};
-ghost use Prim.Native.Nat.{min};
 ghost use Rattle.one_word.specs.Word.{Checks, Answers, Zeros};
 ghost use Rattle.one_word.specs.Steps.{Spanned, Exact, Cuts, Ready, Follows};
-
-// The smaller of two numbers.
-fn smaller(a: usize, b: usize) -> usize
-    ensures { λ r. ⌜ r ≡ min a b ⌝ }
-{
-    if a <= b { a } else { b }
-}
 
 // Checks all, with a work table that is left as it may be. The word's first `bytes` bytes stand at the span.
 fn check(
@@ -143,7 +136,7 @@ fn check_and_cut(
     ensures { λ r. ⌜ Answers (record { setting = setting; word = now (word .entry); spellings = now (spellings .entry); pieces = now (pieces .entry); scores = now (scores .entry) }) (record { keys = now (keys .entry); ends = now (ends .entry); table = now (table .entry) }) (now (path .entry)) (now (path .exit)) r ⌝ }
 {
     // By its first 256 bytes it is known whether a word is too long.
-    let bytes = smaller(word.len(), 256);
+    let bytes = lesser(word.len(), 256);
     let span = [0u32, bytes as u32];
     match check(
         setting,

@@ -5,6 +5,7 @@
 // places of the trie, and a word a span of the cache.
 use make::Trained;
 use settings::Settings;
+use slots::lesser;
 use stored::Stored;
 ghost use mathlib.Core.Path.{_≡_};
 ghost use Prim.Native.Nat.{_*_, min};
@@ -75,13 +76,6 @@ fn train(
     )
 }
 
-// The lesser.
-fn least(a: usize, b: usize) -> usize
-    ensures { λ r. ⌜ r ≡ min a b ⌝ }
-{
-    if a < b { a } else { b }
-}
-
 // How many numbers the spans of so many texts are, of those that are lent.
 fn pairs(texts: usize, numbers: usize) -> usize
     ensures { λ r. ⌜ r ≡ min (2 * texts) numbers ⌝ }
@@ -107,11 +101,11 @@ pub fn learn(
     ensures { λ r. ⌜ Answers (lentBy (tables stored (now (texts .entry)) (now (specials .entry)) (now (text .entry)) (now (words .entry)) (now (frequencies .entry)))) rooms (record { bytes = now (bytes .entry); tokens = now (tokens .entry); scores = now («token_scores» .entry) }) (record { bytes = now (bytes .exit); tokens = now (tokens .exit); scores = now («token_scores» .exit) }) r ⌝ }
 {
     let settings = stored.settings;
-    let a = least(stored.specials.bytes, texts.len());
+    let a = lesser(stored.specials.bytes, texts.len());
     let b = pairs(stored.specials.count, specials.len());
-    let c = least(stored.words.bytes, text.len());
+    let c = lesser(stored.words.bytes, text.len());
     let d = pairs(stored.words.count, words.len());
-    let e = least(stored.words.count, frequencies.len());
+    let e = lesser(stored.words.count, frequencies.len());
     train(
         settings,
         &texts[..a],

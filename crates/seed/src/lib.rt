@@ -10,8 +10,9 @@ use seeding::find_all;
 use seeding::gather_in_order;
 use seeding::kept;
 use seeding::rank_both;
+use slots::lesser;
 ghost use mathlib.Core.Path.{_≡_};
-ghost use Prim.Native.Nat.{min, max};
+ghost use Prim.Native.Nat.{max};
 ghost use Rattle.seed.specs.Seed.{corpusOf, slotsOf, Asked, Answers};
 ghost use Rattle.seed.specs.Steps.{Writing, Written, Listing, ListedNow};
 
@@ -19,13 +20,6 @@ ghost use Rattle.seed.specs.Steps.{Writing, Written, Listing, ListedNow}
 pub enum Answer {
     Listed { required: usize, many: usize },
     NoRoom,
-}
-
-// The lesser of two numbers.
-fn lesser(a: usize, b: usize) -> usize
-    ensures { λ r. ⌜ r ≡ min a b ⌝ }
-{
-    if a < b { a } else { b }
 }
 
 // The greater of two numbers.

@@ -3,18 +3,12 @@ use frames::Answer;
 use hex::Written;
 use libc::STDOUT_FILENO;
 use refusal::Refusal;
+use slots::lesser;
 ghost use Prim.Native.Nat.{_≤_};
-
-// The lesser.
-pub fn least(a: usize, b: usize) -> usize
-    ensures { λ r. ⌜ r ≤ b ⌝ }
-{
-    if a < b { a } else { b }
-}
 
 // Writes what waits to standard output.
 fn send(out: &[u8], waiting: usize) {
-    let n = least(waiting, out.len());
+    let n = lesser(waiting, out.len());
     io::write_all(STDOUT_FILENO, &out[..n]);
 }
 

@@ -5,13 +5,14 @@
 // take scores at zero or below, and say what their answer means: a cut that wins, said of cuts alone, in the crate `scores`.
 // The forward pass is one pass over the edges, ends rising. The walk back goes twice, to count and then to write from the end,
 // so that nothing is turned round afterwards.
+use floats::is_finite;
+use floats::lowest;
 ghost use mathlib.Core.Path.{_≡_};
 ghost use mathlib.Core.Bool.{true};
 ghost use mathlib.Core.List.{List, _++_};
 ghost use Prim.Native.Nat.{ℕ, _+_, _≤_, _<_};
 ghost use lib.ListN.{length, drop, replicate};
 ghost use lib.Ieee.{inf};
-ghost use lib.Ieee.Scale.{finite};
 ghost use Rattle.scores.specs.Table.{step, ending, table, edges-to, best as greatest};
 ghost use Rattle.scores.specs.Floats.{f64s};
 ghost use Rattle.viterbi.specs.Slices.{edges-of, lattice-of, without, seen, Readable, EndReadable, WellFormed};
@@ -23,20 +24,6 @@ ghost use Rattle.viterbi.specs.Answers.{Asked, Behind, Answers};
 struct Choice {
     top: f64,
     via: u32,
-}
-
-// Minus infinity, the score of no cut.
-fn lowest() -> f64
-    ensures { λ r. ⌜ r ≡ inf true ⌝ }
-{
-    -1.0 / 0.0
-}
-
-// Neither a NaN nor an infinity.
-fn is_finite(x: f64) -> bool
-    ensures { λ r. ⌜ r ≡ finite x ⌝ }
-{
-    x > lowest() && x < 1.0 / 0.0
 }
 
 // The better of the choice and edge k, the choice where they are level. An edge of the excluded piece offers nothing.

@@ -18,8 +18,8 @@ Inv-loop offsets starts ids scores beta₀ n done₀ beta done = (done ≤ n) ×
 abbrev μ-loop : tie.MeasureT-loop
 μ-loop offsets starts ids scores beta₀ n done₀ beta done = n - done
 
-minus-infinity-requires : tie.Need-minus-infinity-requires Inv-loop μ-loop
-minus-infinity-requires c κs = tt
+lowest-requires : tie.Need-lowest-requires Inv-loop μ-loop
+lowest-requires c κs = tt
 
 fill-requires : tie.Need-fill-requires Inv-loop μ-loop
 fill-requires c κs = omega arith
@@ -33,7 +33,7 @@ slice-write-beta c = search needs
 loop-holds : tie.Need-loop-holds Inv-loop μ-loop
 loop-holds c =
     let l = c .before .before .fill .kept .0 in
-    (omega arith, simp length-set (omega arith), refl, holds-none (now (c .before .before .before .before .before .before .before .before .before .before .args .offsets)) (now (c .before .before .before .before .before .before .before .before .before .before .args .starts)) (now (c .before .before .before .before .before .before .before .before .before .before .args .ids)) (now (c .before .before .before .before .before .before .before .before .before .before .args .scores)) (c .before .before .before .before .before .before .before .before .before .before .args .n) (now (c .before .before .before .before .before .before .before .before .before .before .args .beta)) (c .before .before .fill .last .0) (omega arith) (c .before .before .before .minus-infinity .ensures) (c .before .before .fill .ensures))
+    (omega arith, simp length-set (omega arith), refl, holds-none (now (c .before .before .before .before .before .before .before .before .before .before .args .offsets)) (now (c .before .before .before .before .before .before .before .before .before .before .args .starts)) (now (c .before .before .before .before .before .before .before .before .before .before .args .ids)) (now (c .before .before .before .before .before .before .before .before .before .before .args .scores)) (c .before .before .before .before .before .before .before .before .before .before .args .n) (now (c .before .before .before .before .before .before .before .before .before .before .args .beta)) (c .before .before .fill .last .0) (omega arith) (c .before .before .before .lowest .ensures) (c .before .before .fill .ensures))
 
 sub-end : tie.Need-sub-end Inv-loop μ-loop
 sub-end c = omega arith
@@ -82,7 +82,7 @@ backward-spec =
     (tie.spec
     Inv-loop
     μ-loop
-    minus-infinity-requires
+    lowest-requires
     fill-requires
     mul-beta
     slice-write-beta

@@ -26,8 +26,8 @@ is-finite-requires c κs = search needs
 fill-requires : tie.Need-fill-requires
 fill-requires c κs = search needs
 
-minus-infinity-requires : tie.Need-minus-infinity-requires
-minus-infinity-requires c κs = search needs
+lowest-requires : tie.Need-lowest-requires
+lowest-requires c κs = search needs
 
 same-length : tie.Need-same-length
 same-length c = search needs
@@ -36,7 +36,7 @@ same-length-2 : tie.Need-same-length-2
 same-length-2 c = search needs
 
 returns : tie.Need-returns
-returns c = answer-none (now (c .before .before .before .before .before .before .before .before .before .before .before .before .before .before .before .before .before .before .before .args .offsets)) (now (c .before .before .before .before .before .before .before .before .before .before .before .before .before .before .before .before .before .before .before .args .starts)) (now (c .before .before .before .before .before .before .before .before .before .before .before .before .before .before .before .before .before .before .before .args .ids)) (now (c .before .before .before .before .before .before .before .before .before .before .before .before .before .before .before .before .before .before .before .args .scores)) (c .before .before .before .before .before .before .before .before .before .before .before .before .before .before .before .before .before .before .before .args .n) (now (c .before .before .before .before .before .before .before .before .before .before .before .before .before .before .before .before .before .before .before .args .alpha)) _ (c .before .before .before .before .before .before .before .before .before .before .forward .ensures) (now (c .before .before .before .before .before .before .before .before .before .before .before .before .before .before .before .before .before .before .before .args .emitted)) (c .before .before .before .before .before .before .is-finite .ensures) (not-true _ (c .before .before .before .before .before .if1 .taken)) (c .minus-infinity .ensures) (c .before .before .before .fill .ensures)
+returns c = answer-none (now (c .before .before .before .before .before .before .before .before .before .before .before .before .before .before .before .before .before .before .before .args .offsets)) (now (c .before .before .before .before .before .before .before .before .before .before .before .before .before .before .before .before .before .before .before .args .starts)) (now (c .before .before .before .before .before .before .before .before .before .before .before .before .before .before .before .before .before .before .before .args .ids)) (now (c .before .before .before .before .before .before .before .before .before .before .before .before .before .before .before .before .before .before .before .args .scores)) (c .before .before .before .before .before .before .before .before .before .before .before .before .before .before .before .before .before .before .before .args .n) (now (c .before .before .before .before .before .before .before .before .before .before .before .before .before .before .before .before .before .before .before .args .alpha)) _ (c .before .before .before .before .before .before .before .before .before .before .forward .ensures) (now (c .before .before .before .before .before .before .before .before .before .before .before .before .before .before .before .before .before .before .before .args .emitted)) (c .before .before .before .before .before .before .is-finite .ensures) (not-true _ (c .before .before .before .before .before .if1 .taken)) (c .lowest .ensures) (c .before .before .before .fill .ensures)
 
 backward-requires : tie.Need-backward-requires
 backward-requires c κs = search needs
@@ -74,7 +74,7 @@ expectations-core-spec =
     slice-read-z
     is-finite-requires
     fill-requires
-    minus-infinity-requires
+    lowest-requires
     same-length
     same-length-2
     returns

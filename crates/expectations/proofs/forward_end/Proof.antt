@@ -17,11 +17,11 @@ Inv-loop starts ids scores alpha low high sum₀ k₀ sum k = (low ≤ k) × (k 
 abbrev μ-loop : tie.MeasureT-loop
 μ-loop starts ids scores alpha low high sum₀ k₀ sum k = high - k
 
-minus-infinity-requires : tie.Need-minus-infinity-requires Inv-loop μ-loop
-minus-infinity-requires c κs = tt
+lowest-requires : tie.Need-lowest-requires Inv-loop μ-loop
+lowest-requires c κs = tt
 
 loop-holds : tie.Need-loop-holds Inv-loop μ-loop
-loop-holds c = (omega arith, omega arith, forward-none (now (c .before .before .before .before .before .args .starts)) (now (c .before .before .before .before .before .args .ids)) (now (c .before .before .before .before .before .args .scores)) (now (c .before .before .before .before .before .args .alpha)) (c .before .before .before .before .before .args .low) (c .minus-infinity .ensures))
+loop-holds c = (omega arith, omega arith, forward-none (now (c .before .before .before .before .before .args .starts)) (now (c .before .before .before .before .before .args .ids)) (now (c .before .before .before .before .before .args .scores)) (now (c .before .before .before .before .before .args .alpha)) (c .before .before .before .before .before .args .low) (c .lowest .ensures))
 
 until-requires : tie.Need-until-requires Inv-loop μ-loop
 until-requires c κs = edge (c .before .loop .k) (c .before .before .before .before .before .before .before .pre) (omega arith) (omega arith)
@@ -47,7 +47,7 @@ forward-end-spec =
     (tie.spec
     Inv-loop
     μ-loop
-    minus-infinity-requires
+    lowest-requires
     loop-holds
     until-requires
     log-add-requires

@@ -7,29 +7,29 @@ use Rattle.listing.proofs.positions.Statement.{statement}
 use Rattle.listing.proofs.positions.Tie as tie
 use Rattle.listing.proofs.positions.Reads as reads
 use Rattle.listing.proofs.positions.Lts as lts
-use Rattle.listing.proofs.smaller.Reads as smaller-reads
+use Rattle.slots.proofs.lesser.Reads as smaller-reads
 
 -- src/lib.rt:52:39
-smaller-requires : tie.Need-smaller-requires
-smaller-requires c κs = search needs
+lesser-requires : tie.Need-lesser-requires
+lesser-requires c κs = search needs
 
 -- src/lib.rt:52:9
-smaller-requires-2 : tie.Need-smaller-requires-2
-smaller-requires-2 c κs = search needs
+lesser-requires-2 : tie.Need-lesser-requires-2
+lesser-requires-2 c κs = search needs
 
 -- src/lib.rt:53:26
-smaller-requires-3 : tie.Need-smaller-requires-3
-smaller-requires-3 c κs = search needs
+lesser-requires-3 : tie.Need-lesser-requires-3
+lesser-requires-3 c κs = search needs
 
 -- src/lib.rt:53:5
-smaller-requires-4 : tie.Need-smaller-requires-4
-smaller-requires-4 c κs = search needs
+lesser-requires-4 : tie.Need-lesser-requires-4
+lesser-requires-4 c κs = search needs
 
 -- src/lib.rt:49:1
 returns : tie.Need-returns
-returns c = c .smaller4 .ensures ∙ ap (λ (n : ℕ). min (length (c .before .before .before .before .before .before .before .before .before .args .chars .now)) n) (c .before .smaller3 .ensures ∙ ap (λ (n : ℕ). min (length (c .before .before .before .before .before .before .before .before .before .args .places .now) / 3) n) (c .before .before .smaller2 .ensures ∙ ap (λ (n : ℕ). min (length (c .before .before .before .before .before .before .before .before .before .args .order .now)) n) (c .before .before .before .smaller .ensures)))
+returns c = c .lesser4 .ensures ∙ ap (λ (n : ℕ). min (length (c .before .before .before .before .before .before .before .before .before .args .chars .now)) n) (c .before .lesser3 .ensures ∙ ap (λ (n : ℕ). min (length (c .before .before .before .before .before .before .before .before .before .args .places .now) / 3) n) (c .before .before .lesser2 .ensures ∙ ap (λ (n : ℕ). min (length (c .before .before .before .before .before .before .before .before .before .args .order .now)) n) (c .before .before .before .lesser .ensures)))
 
 pub positions-spec : {M : Type 1} → statement M
 positions-spec =
     tie.close
-    (tie.spec smaller-requires smaller-requires-2 smaller-requires-3 smaller-requires-4 returns)
+    (tie.spec lesser-requires lesser-requires-2 lesser-requires-3 lesser-requires-4 returns)

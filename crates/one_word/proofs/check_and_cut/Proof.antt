@@ -7,11 +7,11 @@ use Rattle.one_word.proofs.check_and_cut.Reads as reads
 use Rattle.one_word.proofs.check_and_cut.Lts as lts
 use Rattle.one_word.proofs.check.Reads as check-reads
 use Rattle.one_word.proofs.lay_and_cut.Reads as lay-and-cut-reads
-use Rattle.one_word.proofs.smaller.Reads as smaller-reads
+use Rattle.slots.proofs.lesser.Reads as smaller-reads
 
 -- src/lib.rt:146:9
-smaller-requires : tie.Need-smaller-requires
-smaller-requires c κs = search needs
+lesser-requires : tie.Need-lesser-requires
+lesser-requires c κs = search needs
 
 -- src/lib.rt:147:23
 cast-t14 : tie.Need-cast-t14
@@ -39,7 +39,7 @@ slice-aggregate-lay-and-cut c = search needs
 
 -- src/lib.rt:150:26
 lay-and-cut-requires : tie.Need-lay-and-cut-requires
-lay-and-cut-requires c κs = (record { bytes-are = c .before .before .before .before .before .before .before .before .before .before .before .smaller .ensures; span-is = refl }, (c .before .before .before .before .before .before .before .before .before .before .before .before .before .before .before .before .before .before .before .before .args .table .now, subst (Checks (record { setting = c .before .before .before .before .before .before .before .before .before .before .before .before .before .before .before .before .before .before .before .before .args .setting; word = c .before .before .before .before .before .before .before .before .before .before .before .before .before .before .before .before .before .before .before .before .args .word .now; spellings = c .before .before .before .before .before .before .before .before .before .before .before .before .before .before .before .before .before .before .before .before .args .spellings .now; pieces = c .before .before .before .before .before .before .before .before .before .before .before .before .before .before .before .before .before .before .before .before .args .pieces .now; scores = c .before .before .before .before .before .before .before .before .before .before .before .before .before .before .before .before .before .before .before .before .args .scores .now }) (c .before .before .before .before .before .before .before .before .before .before .before .before .before .before .before .before .before .before .before .before .args .table .now)) (c .before .before .before .before .enum-told .given .1) (c .before .before .before .before .before .before .before .before .check .ensures)))
+lay-and-cut-requires c κs = (record { bytes-are = c .before .before .before .before .before .before .before .before .before .before .before .lesser .ensures; span-is = refl }, (c .before .before .before .before .before .before .before .before .before .before .before .before .before .before .before .before .before .before .before .before .args .table .now, subst (Checks (record { setting = c .before .before .before .before .before .before .before .before .before .before .before .before .before .before .before .before .before .before .before .before .args .setting; word = c .before .before .before .before .before .before .before .before .before .before .before .before .before .before .before .before .before .before .before .before .args .word .now; spellings = c .before .before .before .before .before .before .before .before .before .before .before .before .before .before .before .before .before .before .before .before .args .spellings .now; pieces = c .before .before .before .before .before .before .before .before .before .before .before .before .before .before .before .before .before .before .before .before .args .pieces .now; scores = c .before .before .before .before .before .before .before .before .before .before .before .before .before .before .before .before .before .before .before .before .args .scores .now }) (c .before .before .before .before .before .before .before .before .before .before .before .before .before .before .before .before .before .before .before .before .args .table .now)) (c .before .before .before .before .enum-told .given .1) (c .before .before .before .before .before .before .before .before .check .ensures)))
 
 -- src/lib.rt:132:1
 same-length : tie.Need-same-length
@@ -73,7 +73,7 @@ pub check-and-cut-spec : {M : Type 1} → statement M
 check-and-cut-spec =
     tie.close
     (tie.spec
-    smaller-requires
+    lesser-requires
     cast-t14
     slice-aggregate-check
     check-requires

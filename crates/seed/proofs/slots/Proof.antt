@@ -4,7 +4,7 @@ use Rattle.seed.proofs.slots.Statement.{statement}
 use Rattle.seed.proofs.slots.Tie as tie
 use Rattle.seed.proofs.slots.Reads as reads
 use Rattle.seed.proofs.slots.Lts as lts
-use Rattle.seed.proofs.lesser.Reads as lesser-reads
+use Rattle.slots.proofs.lesser.Reads as lesser-reads
 
 -- src/lib.rt:49:38
 lesser-requires : tie.Need-lesser-requires

@@ -6,8 +6,8 @@ use borrow.Author.Needs.{needs}
 use Rattle.train.proofs.show.send.Statement.{statement}
 use Rattle.train.proofs.show.send.Tie as tie
 
-least-requires : tie.Need-least-requires
-least-requires c κs = search needs
+lesser-requires : tie.Need-lesser-requires
+lesser-requires c κs = search needs
 
 slice-aggregate-write-all : tie.Need-slice-aggregate-write-all
 slice-aggregate-write-all c = simp length-take (omega arith)
@@ -20,4 +20,4 @@ returns c = search needs
 
 pub send-spec : {M : Type 1} → statement M
 send-spec =
-    tie.close (tie.spec least-requires slice-aggregate-write-all write-all-requires returns)
+    tie.close (tie.spec lesser-requires slice-aggregate-write-all write-all-requires returns)
