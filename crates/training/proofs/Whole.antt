@@ -22,42 +22,6 @@ use Rattle.make.specs.declared.Trained.the-variants.{Tokens, Refused}
 use Rattle.finish.specs.Steps.{GoingOn, GoesTo, GoesOn}
 use Rattle.training.specs.Train.{Work, seedWork, cacheSlots, Seeds, Why, early, later, Gives, Answers}
 
--- ---- `start` is lent as many scores as there are slots of both kinds
-pub in-scores : (scores : List Float) (slots most : ℕ) → most ≡ fresh.smaller (length scores) slots → most ≤ length scores
-in-scores scores slots most e = smaller-is (length scores) slots e .left
-
-pub begins : (x : start.Lent) (kept counts chars places order work ranks pieces tallies table : List ℕ) (scores : List Float) (slots most : ℕ) → most ≡ fresh.smaller (length scores) slots
-    → (kept' counts' pieces' tallies' : List ℕ) (scores' rest : List Float) (r : Started)
-    → start.Answers x
-    (record { kept = kept; counts = counts; chars = chars; places = places; order = order; work = work; ranks = ranks; pieces = pieces; tallies = tallies; scores = take most scores; table = table })
-    (record { kept = kept'; counts = counts'; pieces = pieces'; tallies = tallies'; scores = scores' }) r
-    → Begun x
-    (record {
-      kept = kept;
-      counts = counts;
-      chars = chars;
-      places = places;
-      order = order;
-      work = work;
-      ranks = ranks;
-      pieces = pieces;
-      tallies = tallies;
-      scores = take (fresh.smaller (length scores) slots) scores;
-      table = table;
-    }) kept' counts' pieces' (scores' ++ rest) r
-begins x kept counts chars places order work ranks pieces tallies table scores slots most e kept' counts' pieces' tallies' scores' rest r a =
-    record {
-      tallies = tallies';
-      front = scores';
-      rest = rest;
-      scores-are = refl;
-      answers =
-          subst
-          (λ (n : ℕ). start.Answers x
-          (record { kept = kept; counts = counts; chars = chars; places = places; order = order; work = work; ranks = ranks; pieces = pieces; tallies = tallies; scores = take n scores; table = table })
-          (record { kept = kept'; counts = counts'; pieces = pieces'; tallies = tallies'; scores = scores' }) r) e a;
-    }
-
 module _ (x : start.Lent) (w : Work) (kept counts pieces : List ℕ) (scores : List Float) (started : Started) (b : Begun x (seedWork w) kept counts pieces scores started) where
   -- ---- what follows is lent the slices that `start` was lent
   pub going-on : (order work ranks : ℕ) → order ≡ length (w .order) → work ≡ length (w .work) → ranks ≡ length (w .ranks)

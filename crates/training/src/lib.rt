@@ -1,69 +1,14 @@
 // Training: words in, tokens with scores out. 001's `train`, document 01's port order 11.
 //
-// "Training checks in this order": 2, 7 at 0, 3, 4, 5, 6 and 7 at 1 in `begin`, then 8, 7 at 2, 3 and 4. "Work slices hold
+// "Training checks in this order": 2, 7 at 0, 3, 4, 5, 6 and 7 at 1 in crate `begin`, then 8, 7 at 2, 3 and 4. "Work slices hold
 // zeros after every call, accepted or refused": each stage clears what no later stage needs.
-use listing::Started;
 use make::Trained;
 use settings::Settings;
 ghost use mathlib.Core.Path.{_≡_};
 ghost use Prim.Native.Nat.{_*_};
 ghost use lib.ListN.{length, take, replicate};
 ghost use Rattle.listing.specs.Start.{countOf};
-ghost use Rattle.fresh.specs.Build.{smaller};
-ghost use Rattle.begun.specs.Here.{Begun};
 ghost use Rattle.training.specs.Train.{Answers, Zeros};
-
-// The seed list. The slices that only seeding needs hold zeros afterwards. A piece needs a slot of EM's, too.
-fn begin(
-    settings: Settings,
-    texts: &[u8],
-    specials: &[u32],
-    text: &[u8],
-    words: &[u32],
-    frequencies: &[u64],
-    kept: &mut [u32],
-    counts: &mut [u64],
-    table: &mut [u32],
-    chars: &mut [u32],
-    places: &mut [u32],
-    order: &mut [u32],
-    work: &mut [u32],
-    ranks: &mut [u64],
-    pieces: &mut [u32],
-    tallies: &mut [u64],
-    scores: &mut [f64],
-    slots: usize,
-) -> Started
-    ensures { λ r. ⌜ Begun (record { settings = settings; texts = now (texts .entry); specials = now (specials .entry); text = now (text .entry); words = take (2 * (countOf (now (words .entry)) (now (frequencies .entry)))) (now (words .entry)); frequencies = take (countOf (now (words .entry)) (now (frequencies .entry))) (now (frequencies .entry)) }) (record { kept = now (kept .entry); counts = now (counts .entry); chars = now (chars .entry); places = now (places .entry); order = now (order .entry); work = now (work .entry); ranks = now (ranks .entry); pieces = now (pieces .entry); tallies = now (tallies .entry); scores = take (smaller (length (now (scores .entry))) slots) (now (scores .entry)); table = now (table .entry) }) (now (kept .exit)) (now (counts .exit)) (now (pieces .exit)) (now (scores .exit)) r ⌝ }
-    ensures { λ _. ⌜ (now (table .exit) ≡ replicate (length (now (table .entry))) 0) × (now (chars .exit) ≡ replicate (length (now (chars .entry))) 0) ⌝ }
-    ensures { λ _. ⌜ (now (places .exit) ≡ replicate (length (now (places .entry))) 0) × (now (tallies .exit) ≡ replicate (length (now (tallies .entry))) 0) ⌝ }
-{
-    let most = fresh::smaller(scores.len(), slots);
-    let started = start::start(
-        settings,
-        texts,
-        specials,
-        text,
-        words,
-        frequencies,
-        kept,
-        counts,
-        chars,
-        places,
-        order,
-        work,
-        ranks,
-        pieces,
-        tallies,
-        &mut scores[..most],
-        table,
-    );
-    lent::clear_numbers(table);
-    lent::clear_numbers(chars);
-    lent::clear_numbers(places);
-    trie::clear_keys(tallies);
-    started
-}
 
 // Zeros in the words that are UTF-8, and in their frequencies.
 fn clear_words(kept: &mut [u32], counts: &mut [u64])
@@ -106,7 +51,7 @@ pub fn train(
     ensures { λ r. ⌜ Answers (record { settings = settings; texts = now (texts .entry); specials = now (specials .entry); text = now (text .entry); words = take (2 * (countOf (now (words .entry)) (now (frequencies .entry)))) (now (words .entry)); frequencies = take (countOf (now (words .entry)) (now (frequencies .entry))) (now (frequencies .entry)) }) (record { kept = now (kept .entry); counts = now (counts .entry); table = now (table .entry); chars = now (chars .entry); places = now (places .entry); order = now (order .entry); work = now (work .entry); ranks = now (ranks .entry); pieces = now (pieces .entry); tallies = now (tallies .entry); scores = now (scores .entry); expected = now (expected .entry); keys = now (keys .entry); ends = now (ends .entry); offsets = now (offsets .entry); starts = now (starts .entry); ids = now (ids .entry); spans = now (spans .entry) }) (record { bytes = now (bytes .entry); tokens = now (tokens .entry); scores = now («token_scores» .entry) }) (record { bytes = now (bytes .exit); tokens = now (tokens .exit); scores = now («token_scores» .exit) }) r ⌝ }
     ensures { λ _. ⌜ Zeros (record { kept = now (kept .entry); counts = now (counts .entry); table = now (table .entry); chars = now (chars .entry); places = now (places .entry); order = now (order .entry); work = now (work .entry); ranks = now (ranks .entry); pieces = now (pieces .entry); tallies = now (tallies .entry); scores = now (scores .entry); expected = now (expected .entry); keys = now (keys .entry); ends = now (ends .entry); offsets = now (offsets .entry); starts = now (starts .entry); ids = now (ids .entry); spans = now (spans .entry) }) (record { kept = now (kept .exit); counts = now (counts .exit); table = now (table .exit); chars = now (chars .exit); places = now (places .exit); order = now (order .exit); work = now (work .exit); ranks = now (ranks .exit); pieces = now (pieces .exit); tallies = now (tallies .exit); scores = now (scores .exit); expected = now (expected .exit); keys = now (keys .exit); ends = now (ends .exit); offsets = now (offsets .exit); starts = now (starts .exit); ids = now (ids .exit); spans = now (spans .exit) }) ⌝ }
 {
-    let started = begin(
+    let started = begin::begin(
         settings,
         texts,
         specials,

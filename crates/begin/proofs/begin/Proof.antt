@@ -1,14 +1,14 @@
-use Rattle.training.proofs.Whole.{in-scores, begins}
+use Rattle.begin.proofs.Seeded.{in-scores, begins}
 use Rattle.shrink.proofs.Cut.{cut-long}
 use Rattle.listing.specs.Start.{countOf, Lent}
 use lib.ListN.{take, replicate}
 use Prim.Native.Nat.{ℕ, _*_}
 use mathlib.Core.Path.{ap, _∙_}
 use borrow.Author.Needs.{needs}
-use Rattle.training.proofs.begin.Statement.{statement}
-use Rattle.training.proofs.begin.Tie as tie
-use Rattle.training.proofs.begin.Reads as reads
-use Rattle.training.proofs.begin.Lts as lts
+use Rattle.begin.proofs.begin.Statement.{statement}
+use Rattle.begin.proofs.begin.Tie as tie
+use Rattle.begin.proofs.begin.Reads as reads
+use Rattle.begin.proofs.begin.Lts as lts
 use Rattle.fresh.proofs.smaller.Reads as smaller-reads
 use Rattle.lent.proofs.clear_numbers.Reads as clear-numbers-reads
 use Rattle.start.proofs.start.Reads as start-reads
