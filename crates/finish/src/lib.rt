@@ -45,70 +45,7 @@ fn clear_lattices(
     lent::clear_numbers(spans);
 }
 
-// What follows the seed list, if there is one.
-fn go_on(
-    started: Started,
-    settings: Settings,
-    texts: &[u8],
-    specials: &[u32],
-    text: &[u8],
-    kept: &[u32],
-    counts: &[u64],
-    order: &mut [u32],
-    work: &mut [u32],
-    ranks: &mut [u64],
-    pieces: &mut [u32],
-    scores: &mut [f64],
-    expected: &mut [f64],
-    keys: &mut [u64],
-    ends: &mut [u32],
-    offsets: &mut [u32],
-    starts: &mut [u32],
-    ids: &mut [u32],
-    spans: &mut [u32],
-    bytes: &mut [u8],
-    tokens: &mut [u32],
-    token_scores: &mut [f64],
-) -> Trained
-    requires { ⌜ GoingOn settings (now texts) (now specials) (now text) (now kept) (now counts) (length (now order)) (length (now work)) (length (now ranks)) (now pieces) (now scores) (length (now expected)) started ⌝ }
-    ensures { λ r. ⌜ GoesOn settings (now (texts .entry)) (now (specials .entry)) (now (text .entry)) (now (kept .entry)) (now (counts .entry)) (now (pieces .entry)) (now (scores .entry)) started (now (keys .entry)) (now (ends .entry)) (record { offsets = now (offsets .entry); starts = now (starts .entry); ids = now (ids .entry); spans = now (spans .entry) }) (record { bytes = now (bytes .entry); tokens = now (tokens .entry); scores = now («token_scores» .entry) }) (record { bytes = now (bytes .exit); tokens = now (tokens .exit); scores = now («token_scores» .exit) }) r ⌝ }
-{
-    match started {
-        Started::Refused(refusal) => Trained::Refused(refusal),
-        Started::Seeded {
-            words,
-            pieces: count,
-            required,
-        } => make::make(
-            settings,
-            texts,
-            specials,
-            text,
-            kept,
-            counts,
-            words,
-            count,
-            required,
-            order,
-            work,
-            ranks,
-            pieces,
-            scores,
-            expected,
-            keys,
-            ends,
-            offsets,
-            starts,
-            ids,
-            spans,
-            bytes,
-            tokens,
-            token_scores,
-        ),
-    }
-}
-
-// The same, and zeros in all work slices of it.
+// What follows a start, and zeros in all work slices of it.
 pub fn finish(
     started: Started,
     settings: Settings,
@@ -138,7 +75,7 @@ pub fn finish(
     ensures { λ _. ⌜ (now (order .exit) ≡ replicate (length (now (order .entry))) 0) × (now (work .exit) ≡ replicate (length (now (work .entry))) 0) × (now (ranks .exit) ≡ replicate (length (now (ranks .entry))) 0) × (now (pieces .exit) ≡ replicate (length (now (pieces .entry))) 0) × (now (scores .exit) ≡ replicate (length (now (scores .entry))) nought) × (now (expected .exit) ≡ replicate (length (now (expected .entry))) nought) ⌝ }
     ensures { λ _. ⌜ (now (keys .exit) ≡ replicate (length (now (keys .entry))) 0) × (now (ends .exit) ≡ replicate (length (now (ends .entry))) 0) × (now (offsets .exit) ≡ replicate (length (now (offsets .entry))) 0) × (now (starts .exit) ≡ replicate (length (now (starts .entry))) 0) × (now (ids .exit) ≡ replicate (length (now (ids .entry))) 0) × (now (spans .exit) ≡ replicate (length (now (spans .entry))) 0) ⌝ }
 {
-    let answer = go_on(
+    let answer = go_on::go_on(
         started,
         settings,
         texts,

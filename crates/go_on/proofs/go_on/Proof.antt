@@ -1,11 +1,11 @@
-use Rattle.finish.proofs.Going.{making, made, not-made}
+use Rattle.go_on.proofs.Followed.{made, not-made}
 use Rattle.make.specs.Make.{Results}
 use Rattle.fresh.specs.Build as fresh
 use borrow.Author.Needs.{needs}
-use Rattle.finish.proofs.go_on.Statement.{statement}
-use Rattle.finish.proofs.go_on.Tie as tie
-use Rattle.finish.proofs.go_on.Reads as reads
-use Rattle.finish.proofs.go_on.Lts as lts
+use Rattle.go_on.proofs.go_on.Statement.{statement}
+use Rattle.go_on.proofs.go_on.Tie as tie
+use Rattle.go_on.proofs.go_on.Reads as reads
+use Rattle.go_on.proofs.go_on.Lts as lts
 use Rattle.make.proofs.make.Reads as make-reads
 
 -- src/lib.rt:77:26
@@ -18,7 +18,7 @@ enum-known-started-2 c = search needs
 
 -- src/lib.rt:82:14
 make-requires : tie.Need-make-requires
-make-requires c κs = making (c .before .before .before .before .before .before .before .before .before .before .before .before .before .before .before .before .before .before .before .before .before .before .before .before .before .before .before .before .before .before .before .before .before .before .before .before .before .before .args .settings) (c .before .before .before .before .before .before .before .before .before .before .before .before .before .before .before .before .before .before .before .before .before .before .before .before .before .before .before .before .before .before .before .before .before .before .before .before .before .before .args .texts .now) (c .before .before .before .before .before .before .before .before .before .before .before .before .before .before .before .before .before .before .before .before .before .before .before .before .before .before .before .before .before .before .before .before .before .before .before .before .before .before .args .specials .now) (c .before .before .before .before .before .before .before .before .before .before .before .before .before .before .before .before .before .before .before .before .before .before .before .before .before .before .before .before .before .before .before .before .before .before .before .before .before .before .args .text .now) (c .before .before .before .before .before .before .before .before .before .before .before .before .before .before .before .before .before .before .before .before .before .before .before .before .before .before .before .before .before .before .before .before .before .before .before .before .before .before .args .kept .now) (c .before .before .before .before .before .before .before .before .before .before .before .before .before .before .before .before .before .before .before .before .before .before .before .before .before .before .before .before .before .before .before .before .before .before .before .before .before .before .args .counts .now) (c .before .before .before .before .before .before .before .before .before .before .before .before .before .before .before .before .before .before .before .before .before .before .before .before .before .before .before .before .before .before .before .before .before .before .before .before .before .before .args .pieces .now) (c .before .before .before .before .before .before .before .before .before .before .before .before .before .before .before .before .before .before .before .before .before .before .before .before .before .before .before .before .before .before .before .before .before .before .before .before .before .before .args .scores .now) (c .before .before .before .before .before .before .before .before .before .before .before .before .before .before .before .before .before .before .before .before .before .before .before .before .before .before .before .before .before .before .before .before .before .before .before .before .before .before .args .started) _ _ _ (c .before .before .before .before .before .before .before .before .before .before .before .before .before .before .before .before .started2 .given .1) _ _ _ _ (c .before .before .before .before .before .before .before .before .before .before .before .before .before .before .before .before .before .before .before .before .before .before .before .before .before .before .before .before .before .before .before .before .before .before .before .before .before .before .pre)
+make-requires c κs = c .before .before .before .before .before .before .before .before .before .before .before .before .before .before .before .before .before .before .before .before .before .before .before .before .before .before .before .before .before .before .before .before .before .before .before .before .before .before .pre _ _ _ (c .before .before .before .before .before .before .before .before .before .before .before .before .before .before .before .before .started2 .given .1)
 
 -- src/lib.rt:49:1
 returns : tie.Need-returns
