@@ -1,3 +1,1 @@
-pub mod Improved
-pub mod Turned
 pub mod Looped

@@ -18,8 +18,9 @@ use Rattle.model.proofs.Theorems.{rounds-fewer}
 use Rattle.shrink.specs.declared.Shrunk.{Shrunk}
 use Rattle.shrink.specs.At.{Slices, At, Fixed, Room}
 use Rattle.shrink.specs.Steps.{Shrinking}
-use Rattle.rounds.specs.Steps.{Improving, Improves, Turns, Settled, Pruning, Prunes, Rounding, Rounds, Left}
-use Rattle.rounds.proofs.Improved.{at-count, improving, improved-at, improved-last}
+use Rattle.turn.specs.Steps.{Improving, Improves, Turns}
+use Rattle.rounds.specs.Steps.{Settled, Pruning, Prunes, Rounding, Rounds, Left}
+use Rattle.turn.proofs.Improved.{at-count, improving, improved-at, improved-last}
 
 -- the slots of all slices
 pub record Slots : Type 0 where

@@ -10,7 +10,7 @@ use Rattle.rounds.proofs.prune_on.Tie as tie
 use Rattle.rounds.proofs.prune_on.Reads as reads
 use Rattle.rounds.proofs.prune_on.Lts as lts
 use Rattle.keep.proofs.keep.Reads as keep-reads
-use Rattle.rounds.proofs.turn.Reads as turn-reads
+use Rattle.turn.proofs.turn.Reads as turn-reads
 
 abbrev Inv-loop : tie.InvT-loop
 Inv-loop setting text words frequencies iterations factor target required count edges pieces₀ scores₀ expected₀ bits₀ ranked₀ remap₀ offsets₀ starts₀ ids₀ spans₀ keys₀ ends₀ so₀ keep₀ pieces scores expected bits ranked remap offsets starts ids spans keys ends so keep =

@@ -7,7 +7,7 @@ use Rattle.rounds.proofs.rounds.Statement.{statement}
 use Rattle.rounds.proofs.rounds.Tie as tie
 use Rattle.rounds.proofs.rounds.Reads as reads
 use Rattle.rounds.proofs.rounds.Lts as lts
-use Rattle.rounds.proofs.improve.Reads as improve-reads
+use Rattle.turn.proofs.improve.Reads as improve-reads
 use Rattle.rounds.proofs.prune_on.Reads as prune-on-reads
 
 -- src/lib.rt:198:5

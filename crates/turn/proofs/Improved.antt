@@ -22,7 +22,7 @@ use Rattle.model.proofs.Kept.{improved-is, improvedOnce-is}
 use Rattle.shrink.specs.At.{Slices, At, Fixed}
 use Rattle.shrink.proofs.Fronts.{held, cut-begins}
 use Rattle.shrink.proofs.Cut.{cut-long, in-starts, in-ids}
-use Rattle.rounds.specs.Steps.{Improving, Improves}
+use Rattle.turn.specs.Steps.{Improving, Improves}
 
 -- as many pieces as are counted
 pub at-count : {t : Task} {text : List ℕ} {m : Model} {s : Slices} {count edges : ℕ} → At t text m s count edges → length (m .pieces) ≡ count

@@ -10,8 +10,8 @@ use Rattle.model.proofs.Kept.{pruned-kept}
 use Rattle.shrink.specs.declared.Shrunk.{Shrunk}
 use Rattle.shrink.specs.At.{Slices, At, Fixed}
 use Rattle.shrink.specs.Steps.{Shrinking, Shrinks}
-use Rattle.rounds.specs.Steps.{Improving, Improves, Turns}
-use Rattle.rounds.proofs.Improved.{at-count, improving, improved-at}
+use Rattle.turn.specs.Steps.{Improving, Improves, Turns}
+use Rattle.turn.proofs.Improved.{at-count, improving, improved-at}
 
 module _ (setting : ℕ) (text : List ℕ) (words : ℕ) (frequencies : List ℕ) (required keep count edges : ℕ) (s : Slices) (used bits ranked remap keys ends : ℕ)
     (w : Shrinking setting text words frequencies required count edges s used bits ranked remap keys ends) (s' : Slices) (r : Shrunk) (h : Shrinks setting text words frequencies required keep count edges s s' r) where

@@ -1,10 +1,10 @@
-use Rattle.rounds.proofs.Improved.{given, improves}
+use Rattle.turn.proofs.Improved.{given, improves}
 use Rattle.shrink.proofs.Cut.{cut-long}
 use borrow.Author.Needs.{needs}
-use Rattle.rounds.proofs.improve.Statement.{statement}
-use Rattle.rounds.proofs.improve.Tie as tie
-use Rattle.rounds.proofs.improve.Reads as reads
-use Rattle.rounds.proofs.improve.Lts as lts
+use Rattle.turn.proofs.improve.Statement.{statement}
+use Rattle.turn.proofs.improve.Tie as tie
+use Rattle.turn.proofs.improve.Reads as reads
+use Rattle.turn.proofs.improve.Lts as lts
 use Rattle.em.proofs.em_many.Reads as em-many-reads
 
 -- src/lib.rt:32:9

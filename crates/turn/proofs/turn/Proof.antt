@@ -1,11 +1,11 @@
-use Rattle.rounds.proofs.Turned.{improving-next, turned}
+use Rattle.turn.proofs.Turned.{improving-next, turned}
 use Rattle.shrink.specs.At.{Slices}
 use borrow.Author.Needs.{needs}
-use Rattle.rounds.proofs.turn.Statement.{statement}
-use Rattle.rounds.proofs.turn.Tie as tie
-use Rattle.rounds.proofs.turn.Reads as reads
-use Rattle.rounds.proofs.turn.Lts as lts
-use Rattle.rounds.proofs.improve.Reads as improve-reads
+use Rattle.turn.proofs.turn.Statement.{statement}
+use Rattle.turn.proofs.turn.Tie as tie
+use Rattle.turn.proofs.turn.Reads as reads
+use Rattle.turn.proofs.turn.Lts as lts
+use Rattle.turn.proofs.improve.Reads as improve-reads
 use Rattle.shrink.proofs.shrink.Reads as shrink-reads
 
 -- src/lib.rt:70:9
