@@ -61,3 +61,11 @@ pub fn begin(
     trie::clear_keys(tallies);
     started
 }
+
+// Zeros in the words that are UTF-8, and in their frequencies, for when no later stage needs them.
+pub fn clear_words(kept: &mut [u32], counts: &mut [u64])
+    ensures { λ _. ⌜ (now (kept .exit) ≡ replicate (length (now (kept .entry))) 0) × (now (counts .exit) ≡ replicate (length (now (counts .entry))) 0) ⌝ }
+{
+    lent::clear_numbers(kept);
+    trie::clear_keys(counts);
+}

@@ -4,19 +4,10 @@
 // zeros after every call, accepted or refused": each stage clears what no later stage needs.
 use make::Trained;
 use settings::Settings;
-ghost use mathlib.Core.Path.{_≡_};
 ghost use Prim.Native.Nat.{_*_};
-ghost use lib.ListN.{length, take, replicate};
+ghost use lib.ListN.{take};
 ghost use Rattle.listing.specs.Start.{countOf};
 ghost use Rattle.training.specs.Train.{Answers, Zeros};
-
-// Zeros in the words that are UTF-8, and in their frequencies.
-fn clear_words(kept: &mut [u32], counts: &mut [u64])
-    ensures { λ _. ⌜ (now (kept .exit) ≡ replicate (length (now (kept .entry))) 0) × (now (counts .exit) ≡ replicate (length (now (counts .entry))) 0) ⌝ }
-{
-    lent::clear_numbers(kept);
-    trie::clear_keys(counts);
-}
 
 // Trains on words of a text, and writes the tokens' bytes, their spans and their scores; or refuses.
 pub fn train(
@@ -95,6 +86,6 @@ pub fn train(
         tokens,
         token_scores,
     );
-    clear_words(kept, counts);
+    begin::clear_words(kept, counts);
     answer
 }

@@ -13,7 +13,7 @@ use Rattle.training.proofs.train.Reads as reads
 use Rattle.training.proofs.train.Lts as lts
 use Rattle.finish.proofs.finish.Reads as finish-reads
 use Rattle.begin.proofs.begin.Reads as begin-reads
-use Rattle.training.proofs.clear_words.Reads as clear-words-reads
+use Rattle.begin.proofs.clear_words.Reads as clear-words-reads
 
 -- src/lib.rt:109:9
 begin-requires : tie.Need-begin-requires
