@@ -29,6 +29,28 @@ fn seed_size(flag: u32, seed: usize) -> SeedSize
     SeedSize::Set(seed)
 }
 
+// The settings, of plain numbers. Apart from the call of training, where each step and each value costs the prover much.
+fn settings_of(
+    vocab_size: usize,
+    seed_flag: u32,
+    seed: usize,
+    max_piece_chars: usize,
+    min_frequency: u64,
+    shrink_factor: f64,
+    em_iterations: usize,
+) -> Settings
+    ensures { λ r. ⌜ r ≡ record { «vocab_size» = «vocab_size»; «seed_size» = seedSize «seed_flag» seed; «max_piece_chars» = «max_piece_chars»; «min_frequency» = «min_frequency»; «shrink_factor» = «shrink_factor»; «em_iterations» = «em_iterations» } ⌝ }
+{
+    Settings {
+        vocab_size,
+        seed_size: seed_size(seed_flag, seed),
+        max_piece_chars,
+        min_frequency,
+        shrink_factor,
+        em_iterations,
+    }
+}
+
 // What there is to tell, at a slot if there is one.
 fn tell(told: &mut [u64], slot: usize, value: u64)
     ensures { λ _. ⌜ now (told .exit) ≡ set (now (told .entry)) slot value ⌝ }
@@ -119,14 +141,15 @@ pub extern "C" fn causeylark_train(
     ensures { λ _. ⌜ Zeros (record { kept = now (kept .entry); counts = now (counts .entry); table = now (table .entry); chars = now (chars .entry); places = now (places .entry); order = now (order .entry); work = now (work .entry); ranks = now (ranks .entry); pieces = now (pieces .entry); tallies = now (tallies .entry); scores = now (scores .entry); expected = now (expected .entry); keys = now (keys .entry); ends = now (ends .entry); offsets = now (offsets .entry); starts = now (starts .entry); ids = now (ids .entry); spans = now (spans .entry) }) (record { kept = now (kept .exit); counts = now (counts .exit); table = now (table .exit); chars = now (chars .exit); places = now (places .exit); order = now (order .exit); work = now (work .exit); ranks = now (ranks .exit); pieces = now (pieces .exit); tallies = now (tallies .exit); scores = now (scores .exit); expected = now (expected .exit); keys = now (keys .exit); ends = now (ends .exit); offsets = now (offsets .exit); starts = now (starts .exit); ids = now (ids .exit); spans = now (spans .exit) }) ⌝ }
 {
     let trained = training::train(
-        Settings {
+        settings_of(
             vocab_size,
-            seed_size: seed_size(seed_flag, seed),
+            seed_flag,
+            seed,
             max_piece_chars,
             min_frequency,
             shrink_factor,
             em_iterations,
-        },
+        ),
         texts,
         specials,
         text,
