@@ -18,7 +18,11 @@
 #[allow(dead_code)]
 #[path = "../lattices/cases.rs"]
 mod cases;
+#[path = "../common/comparison.rs"]
+mod comparison;
 mod cuts;
+#[path = "../common/no.rs"]
+mod no;
 mod one_word;
 #[allow(dead_code)]
 #[path = "../lattices/plain.rs"]
@@ -31,14 +35,12 @@ mod refusals;
 
 use causeylark::slices::{self, Pieces, Word, Work};
 use causeylark::Refusal;
-use random::Random;
-use refusals::{Edge, Lent, No, OneWord, Rooms, WordRooms};
-use std::collections::BTreeMap;
+use comparison::{Call, ENOUGH};
+use no::No;
+use plain::Edge;
+use refusals::{Lent, OneWord, Rooms, WordRooms};
 
-const SHOWN: usize = 10;
-
-/// What has to come at least once, in as many cases as this.
-const ENOUGH: usize = 2_000;
+/// What has to come at least once.
 const CALLS: [&str; 5] = ["viterbi", "excluding", "connected", "expectations", "short"];
 /// Of every call.
 const FORMED: [(u32, &str); 8] = [
@@ -131,18 +133,14 @@ const NO_PATH: No = No {
     why: "no finite sum",
 };
 
-struct Comparison {
-    random: Random,
-    case: usize,
-    counts: BTreeMap<(&'static str, u32, &'static str), u64>,
+#[derive(Default)]
+struct Sums {
     edges: usize,
     cuts: usize,
     one_word_cuts: usize,
-    differences: usize,
 }
 
-/// What a call answers in numbers: the sum's bits and the count, or the refusal.
-type Said = Result<(u64, usize), (u32, u64)>;
+type Comparison = comparison::Comparison<Call, Sums>;
 
 /// What should come of a call: the sum, the count, and what its results begin with.
 type Wanted<T> = Result<(f64, usize, Vec<T>), No>;
@@ -192,28 +190,6 @@ fn one_cut(lent: &OneWord, rooms: &WordRooms) -> ([Option<No>; 9], Option<(f64, 
 }
 
 impl Comparison {
-    fn difference(
-        &mut self,
-        what: &str,
-        wanted: impl std::fmt::Debug,
-        found: impl std::fmt::Debug,
-    ) {
-        self.differences += 1;
-        if self.differences <= SHOWN {
-            println!(
-                "case {}: {what}\n  wanted {wanted:?}\n  found  {found:?}",
-                self.case
-            );
-        }
-    }
-
-    /// Numbers of every size, so that nothing that was there before can be taken for a result.
-    fn junk(&mut self, slots: usize) -> Vec<u32> {
-        (0..slots)
-            .map(|_| (self.random.bits() >> self.random.below(64)) as u32)
-            .collect()
-    }
-
     fn junk_floats(&mut self, slots: usize) -> Vec<f64> {
         (0..slots)
             .map(|_| f64::from_bits(self.random.bits()))
@@ -230,20 +206,12 @@ impl Comparison {
         results: (&[T], &[T]),
         clear: bool,
     ) {
-        let (number, why) = wanted
-            .as_ref()
-            .map_or_else(|no| (no.number, no.why), |_| (0, good));
-        *self.counts.entry((call, number, why)).or_default() += 1;
-        let wants: Said = match wanted {
+        let wants = match wanted {
             Ok((sum, count, _)) => Ok((sum.to_bits(), *count)),
-            Err(no) => Err((no.number, no.place)),
+            Err(no) => Err(*no),
         };
-        let says: Said = said
-            .map(|(sum, count)| (sum.to_bits(), count))
-            .map_err(|refusal| (refusal.number(), refusal.place()));
-        if wants != says {
-            self.difference(call, (wants, why), says);
-        }
+        let says = said.map(|(sum, count)| (sum.to_bits(), count));
+        let why = self.answer(call, good, wants, says);
         let (before, after) = results;
         let front = wanted.as_ref().map_or(&[][..], |(_, _, front)| front);
         let left: Vec<T> = front
@@ -264,12 +232,12 @@ impl Comparison {
     }
 
     fn viterbi(&mut self, good: &'static str, lent: &Lent, rooms: &Rooms) {
-        let (mut best, mut back) = (self.junk_floats(rooms.best), self.junk(rooms.back));
-        let before = self.junk(rooms.path);
+        let (mut best, mut back) = (self.junk_floats(rooms.best), self.random.junk(rooms.back));
+        let before = self.random.junk(rooms.path);
         let mut path = before.clone();
         let said = slices::viterbi(word(lent), &lent.scores, &mut best, &mut back, &mut path);
         let wanted = best_cut(lent, rooms);
-        self.cuts += usize::from(wanted.is_ok());
+        self.sums.cuts += usize::from(wanted.is_ok());
         let good = if lent.n == 0 { "an empty word" } else { good };
         self.judge(
             CALLS[0],
@@ -283,7 +251,7 @@ impl Comparison {
 
     /// The same with 32 slots that hold zeros, by value.
     fn short(&mut self, good: &'static str, lent: &Lent, rooms: &Rooms) {
-        let (mut best, mut back) = (self.junk_floats(rooms.best), self.junk(rooms.back));
+        let (mut best, mut back) = (self.junk_floats(rooms.best), self.random.junk(rooms.back));
         let short = slices::viterbi_short(word(lent), &lent.scores, &mut best, &mut back);
         let wanted = best_cut(lent, &Rooms { path: 32, ..*rooms });
         self.judge(
@@ -312,7 +280,7 @@ impl Comparison {
     }
 
     fn connected(&mut self, good: &'static str, lent: &Lent, rooms: &Rooms) {
-        let mut reach = self.junk(rooms.reach);
+        let mut reach = self.random.junk(rooms.reach);
         let said = slices::is_connected(word(lent), &mut reach);
         let wanted = refusals::is_connected(lent, rooms).map(|edges| {
             (
@@ -347,7 +315,7 @@ impl Comparison {
             let (z, entries) = original(lent, &edges).expectations(&lent.scores);
             (z, 0, bits(&entries))
         });
-        self.edges += wanted.as_ref().map_or(0, |(_, _, entries)| entries.len());
+        self.sums.edges += wanted.as_ref().map_or(0, |(_, _, entries)| entries.len());
         let said = said.map(|sum| (sum, 0));
         let clear = zeros(&alpha, &[]) && zeros(&beta, &[]);
         self.judge(
@@ -362,8 +330,8 @@ impl Comparison {
 
     fn one_word(&mut self, good: &'static str, lent: &OneWord, rooms: &WordRooms) {
         let mut keys: Vec<u64> = (0..rooms.keys).map(|_| self.random.bits()).collect();
-        let (mut ends, mut table) = (self.junk(rooms.ends), self.junk(rooms.table));
-        let before = self.junk(rooms.path);
+        let (mut ends, mut table) = (self.random.junk(rooms.ends), self.random.junk(rooms.table));
+        let before = self.random.junk(rooms.path);
         let mut path = before.clone();
         let pieces = Pieces {
             setting: lent.setting,
@@ -385,9 +353,9 @@ impl Comparison {
         };
         if let Some(step) = first.filter(|step| noes.get(step + 1).is_some_and(Option::is_some)) {
             let (number, why) = ORDER[step];
-            *self.counts.entry((BOTH, number, why)).or_default() += 1;
+            self.count((BOTH, number, why));
         }
-        self.one_word_cuts += usize::from(wanted.is_ok());
+        self.sums.one_word_cuts += usize::from(wanted.is_ok());
         let good = match wanted {
             Err(_) => good,
             _ if lent.word.is_empty() => "an empty word",
@@ -457,62 +425,24 @@ impl Comparison {
         self.one_by_one(&case, scores);
     }
 
-    fn report(&mut self, cases: usize) {
-        for ((call, number, why), count) in &self.counts {
-            println!("{count:>9}  {call:<12}  {number:>2}  {why}");
-        }
+    fn report(&mut self) {
+        self.show(|(call, number, why)| format!("{call:<12}  {number:>2}  {why}"));
         let every = CALLS
             .iter()
             .flat_map(|call| FORMED.map(|(number, why)| (*call, number, why)));
         let whole = WHOLE.map(|(number, why)| (ONE_WORD, number, why));
         let order = ORDER.map(|(number, why)| (BOTH, number, why));
-        for kind in every.chain(OTHERS).chain(whole).chain(order) {
-            if cases >= ENOUGH && !self.counts.contains_key(&kind) {
-                self.difference("never came", kind, "none");
-            }
-        }
+        self.demand(every.chain(OTHERS).chain(whole).chain(order), ENOUGH);
         println!(
-            "cuts: {cases} cases, {} best cuts, {} edges with expectations, {} one-word cuts, {} differences",
-            self.cuts, self.edges, self.one_word_cuts, self.differences
+            "cuts: {} cases, {} best cuts, {} edges with expectations, {} one-word cuts, {} differences",
+            self.cases, self.sums.cuts, self.sums.edges, self.sums.one_word_cuts, self.differences
         );
     }
 }
 
-/// The numbers after --cases and --seed.
-fn arguments() -> Result<(usize, u64), String> {
-    let (mut cases, mut seed) = (100_000, 1);
-    let mut words = std::env::args().skip(1);
-    while let Some(word) = words.next() {
-        let number = words.next().and_then(|number| number.parse().ok());
-        match (word.as_str(), number) {
-            ("--cases", Some(number)) => cases = number as usize,
-            ("--seed", Some(number)) => seed = number,
-            _ => return Err(format!("cuts: --cases N or --seed N, and not {word}")),
-        }
-    }
-    Ok((cases, seed))
-}
-
 fn main() {
-    let (cases, seed) = arguments().unwrap_or_else(|reason| {
-        eprintln!("{reason}");
-        std::process::exit(2);
-    });
-    let mut comparison = Comparison {
-        random: Random(seed),
-        case: 0,
-        counts: BTreeMap::new(),
-        edges: 0,
-        cuts: 0,
-        one_word_cuts: 0,
-        differences: 0,
-    };
-    for case in 1..=cases {
-        comparison.case = case;
-        comparison.compare();
-    }
-    comparison.report(cases);
-    if comparison.differences > 0 {
-        std::process::exit(1);
-    }
+    let mut comparison = Comparison::asked("cuts", 100_000);
+    comparison.each_case(Comparison::compare);
+    comparison.report();
+    comparison.end();
 }

@@ -1,6 +1,6 @@
 //! Scores of every kind, how much is lent, and how what is lent is damaged.
 
-use crate::cases::{shorten, spoil};
+use crate::cases::{cut, shorten, spoil};
 use crate::random::Random;
 use crate::refusals::{Lent, Rooms};
 
@@ -60,12 +60,6 @@ pub fn spoil_score(random: &mut Random, scores: &mut [f64]) {
         let nan = f64::from_bits(0x7ff0_0000_0000_0001 | random.bits());
         scores[id] = random.pick(&[f64::NAN, nan, 5e-324, 1.0, f64::INFINITY, any, 0.0, -0.0]);
     }
-}
-
-pub fn cut<T>(random: &mut Random, slots: &mut Vec<T>) {
-    let mut long = slots.len();
-    shorten(random, &mut long);
-    slots.truncate(long);
 }
 
 /// Damages what is lent. It may still be good, and it may be bad in another way than was meant.

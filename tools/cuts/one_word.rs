@@ -1,7 +1,7 @@
 //! How much is lent to the one-word cut, and how what is lent is damaged.
 
-use crate::cases::{repeat, shorten, spoil, spoil_byte};
-use crate::cuts::{cut, score, spoil_score};
+use crate::cases::{cut, repeat, shorten, spoil, spoil_byte};
+use crate::cuts::{score, spoil_score};
 use crate::random::Random;
 use crate::refusals::{OneWord, WordRooms};
 

@@ -1,21 +1,9 @@
 //! When a call of cuts should say no, worked out from document 01's sentences in the plainest way. Nothing here is shared with
 //! the proved code or with the Rust original.
 
-use crate::plain::nodes;
+use crate::no::{no, No};
+use crate::plain::{edges, nodes, Edge};
 use std::collections::BTreeSet;
-
-/// A refusal: its number, its place, and which part of its sentence applies.
-#[derive(Clone, Copy, Debug, PartialEq, Eq)]
-pub struct No {
-    pub number: u32,
-    pub place: u64,
-    pub why: &'static str,
-}
-
-fn no<T>(number: u32, place: usize, why: &'static str) -> Result<T, No> {
-    let place = place as u64;
-    Err(No { number, place, why })
-}
 
 /// One word's lattice and the scores, as they are lent.
 #[derive(Clone, Debug)]
@@ -39,46 +27,16 @@ pub struct Rooms {
     pub emitted: usize,
 }
 
-/// An edge: start, end, id.
-pub type Edge = (u32, u32, u32);
-
 /// The edges of a lattice where ids below `pieces` have a score, or why it is not well formed.
 fn read(lent: &Lent, pieces: usize) -> Result<Vec<Edge>, &'static str> {
-    let Lent {
-        offsets,
-        starts,
-        ids,
-        n,
-        ..
-    } = lent;
-    if offsets.len() < 2 || offsets.len() - 2 != *n {
+    let (offsets, starts, ids) = (&lent.offsets, &lent.starts, &lent.ids);
+    if offsets.len() < 2 || offsets.len() - 2 != lent.n {
         return Err("not n + 2 offsets");
     }
     if starts.len() != ids.len() {
         return Err("starts and ids not equally many");
     }
-    if offsets[0] != 0 || offsets[n + 1] as usize != starts.len() {
-        return Err("offsets not from 0 to the edge count");
-    }
-    if offsets.windows(2).any(|two| two[0] > two[1]) {
-        return Err("offsets that fall");
-    }
-    let mut edges = Vec::new();
-    for end in 0..=*n {
-        for edge in offsets[end] as usize..offsets[end + 1] as usize {
-            if starts[edge] as usize >= end {
-                return Err("a start not before its end");
-            }
-            if edge > offsets[end] as usize && starts[edge - 1] >= starts[edge] {
-                return Err("starts that do not rise");
-            }
-            if ids[edge] as usize >= pieces {
-                return Err("an id with no score");
-            }
-            edges.push((starts[edge], end as u32, ids[edge]));
-        }
-    }
-    Ok(edges)
+    edges(offsets, starts, ids, pieces, "an id with no score")
 }
 
 fn formed(lent: &Lent, pieces: usize) -> Result<Vec<Edge>, No> {

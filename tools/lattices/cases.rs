@@ -29,6 +29,19 @@ impl Random {
         from[self.below(from.len())]
     }
 
+    /// Numbers of every size, so that nothing that was there before can be taken for a result.
+    pub fn numbers(&mut self, slots: usize) -> Vec<u64> {
+        (0..slots).map(|_| self.bits() >> self.below(64)).collect()
+    }
+
+    /// The same in 32 bits.
+    pub fn junk(&mut self, slots: usize) -> Vec<u32> {
+        self.numbers(slots)
+            .iter()
+            .map(|number| *number as u32)
+            .collect()
+    }
+
     pub fn shuffle<T>(&mut self, items: &mut [T]) {
         for last in (1..items.len()).rev() {
             items.swap(last, self.below(last + 1));
@@ -280,7 +293,8 @@ pub fn damage_lent(random: &mut Random, lent: &mut Lent, sizes: &mut Sizes) {
     }
 }
 
-fn cut(random: &mut Random, slots: &mut Vec<u32>) {
+/// Takes slots from the end.
+pub fn cut<T>(random: &mut Random, slots: &mut Vec<T>) {
     let mut long = slots.len();
     shorten(random, &mut long);
     slots.truncate(long);

@@ -11,6 +11,10 @@
 //!     --seed N     the same seed makes the same cases
 
 mod cases;
+#[path = "../common/comparison.rs"]
+mod comparison;
+#[path = "../common/no.rs"]
+mod no;
 mod plain;
 #[allow(dead_code)]
 #[path = "../math/random.rs"]
@@ -18,15 +22,12 @@ mod random;
 
 use cases::Case;
 use causeylark::{slices, Refusal};
-use plain::{Cache, Lattice, Lent, No, Sizes};
-use random::Random;
-use std::collections::BTreeMap;
+use comparison::{Call, ENOUGH};
+use no::No;
+use plain::{Cache, Lattice, Lent, Sizes};
 
-const SHOWN: usize = 10;
-
-/// What has to come at least once, in as many cases as this.
-const ENOUGH: usize = 2_000;
-const KINDS: [(&str, u32, &str); 34] = [
+/// What has to come at least once.
+const KINDS: [Call; 34] = [
     ("build", 0, "accepted"),
     ("build", 0, "accepted, damaged"),
     ("build", 2, "piece length"),
@@ -63,13 +64,12 @@ const KINDS: [(&str, u32, &str); 34] = [
     ("original", 0, "built or pruned"),
 ];
 
-struct Comparison {
-    random: Random,
-    case: usize,
-    counts: BTreeMap<(&'static str, u32, &'static str), u64>,
+#[derive(Default)]
+struct Sums {
     edges: usize,
-    differences: usize,
 }
+
+type Comparison = comparison::Comparison<Call, Sums>;
 
 /// The list, and zeros behind it.
 fn filled(front: &[u32], slots: usize) -> Vec<u32> {
@@ -101,28 +101,6 @@ fn lent_cache(cache: &mut Cache) -> slices::Results<'_> {
 }
 
 impl Comparison {
-    fn difference(
-        &mut self,
-        what: &str,
-        wanted: impl std::fmt::Debug,
-        found: impl std::fmt::Debug,
-    ) {
-        self.differences += 1;
-        if self.differences <= SHOWN {
-            println!(
-                "case {}: {what}\n  wanted {wanted:?}\n  found  {found:?}",
-                self.case
-            );
-        }
-    }
-
-    /// Numbers of every size, so that nothing that was there before can be taken for a result.
-    fn junk(&mut self, slots: usize) -> Vec<u32> {
-        (0..slots)
-            .map(|_| (self.random.bits() >> self.random.below(64)) as u32)
-            .collect()
-    }
-
     /// The answer, and what the slices hold after it.
     fn judge(
         &mut self,
@@ -133,26 +111,15 @@ impl Comparison {
         before: &Cache,
         after: &Cache,
     ) {
-        let (number, why) = match wanted {
-            Ok(_) => (0, good),
-            Err(no) => (no.number, no.why),
-        };
-        *self.counts.entry((call, number, why)).or_default() += 1;
         let edges = |lattices: &Vec<Lattice>| {
             lattices
                 .iter()
                 .map(|lattice| lattice.edges.len())
                 .sum::<usize>()
         };
-        let wants = wanted
-            .as_ref()
-            .map(edges)
-            .map_err(|no| (no.number, no.place));
-        let says = said.map_err(|refusal| (refusal.number(), refusal.place()));
-        self.edges += says.unwrap_or(0);
-        if wants != says {
-            self.difference(call, (wants, why), says);
-        }
+        self.sums.edges += said.unwrap_or(0);
+        let wants = wanted.as_ref().map(edges).map_err(|no| *no);
+        let why = self.answer(call, good, wants, said);
         let left = wanted
             .as_ref()
             .map_or(before.clone(), |lattices| filled_cache(lattices, before));
@@ -164,13 +131,13 @@ impl Comparison {
     /// Builds in tables that hold junk.
     fn build(&mut self, good: &'static str, lent: &Lent, sizes: &Sizes) -> Cache {
         let before = Cache {
-            offsets: self.junk(sizes.offsets),
-            starts: self.junk(sizes.starts),
-            ids: self.junk(sizes.ids),
-            spans: self.junk(sizes.spans),
+            offsets: self.random.junk(sizes.offsets),
+            starts: self.random.junk(sizes.starts),
+            ids: self.random.junk(sizes.ids),
+            spans: self.random.junk(sizes.spans),
         };
         let mut keys: Vec<u64> = (0..sizes.keys).map(|_| self.random.bits()).collect();
-        let (mut ends, mut table) = (self.junk(sizes.ends), self.junk(sizes.table));
+        let (mut ends, mut table) = (self.random.junk(sizes.ends), self.random.junk(sizes.table));
         let mut cache = before.clone();
         let said = slices::build(
             slices::Lent {
@@ -216,10 +183,7 @@ impl Comparison {
 
     /// The slices begin with the original's lattices.
     fn same(&mut self, cache: &Cache, original: &original::Cache) {
-        *self
-            .counts
-            .entry(("original", 0, "built or pruned"))
-            .or_default() += 1;
+        self.count(("original", 0, "built or pruned"));
         let (mut from, mut at) = (0, 0);
         for (word, theirs) in original.lattices().iter().enumerate() {
             let (n, many) = (theirs.offsets.len() - 2, theirs.edges.len());
@@ -339,57 +303,20 @@ impl Comparison {
         }
     }
 
-    fn report(&mut self, cases: usize) {
-        for ((call, number, why), count) in &self.counts {
-            println!("{count:>9}  {call:<8}  {number:>2}  {why}");
-        }
-        for kind in KINDS {
-            if cases >= ENOUGH && !self.counts.contains_key(&kind) {
-                self.difference("never came", kind, "none");
-            }
-        }
+    fn report(&mut self) {
+        self.show(|(call, number, why)| format!("{call:<8}  {number:>2}  {why}"));
+        self.demand(KINDS, ENOUGH);
         println!(
-            "lattices: {cases} cases, {} edges, {} differences",
-            self.edges, self.differences
+            "lattices: {} cases, {} edges, {} differences",
+            self.cases, self.sums.edges, self.differences
         );
     }
 }
 
-/// The numbers after --cases and --seed.
-fn arguments() -> Result<(usize, u64), String> {
-    let (mut cases, mut seed) = (100_000, 1);
-    let mut words = std::env::args().skip(1);
-    while let Some(word) = words.next() {
-        let number = words.next().and_then(|number| number.parse().ok());
-        match (word.as_str(), number) {
-            ("--cases", Some(number)) => cases = number as usize,
-            ("--seed", Some(number)) => seed = number,
-            _ => return Err(format!("lattices: --cases N or --seed N, and not {word}")),
-        }
-    }
-    Ok((cases, seed))
-}
-
 fn main() {
-    let (cases, seed) = arguments().unwrap_or_else(|reason| {
-        eprintln!("{reason}");
-        std::process::exit(2);
-    });
-    let random = Random(seed);
-    let mut comparison = Comparison {
-        random,
-        case: 0,
-        counts: BTreeMap::new(),
-        edges: 0,
-        differences: 0,
-    };
+    let mut comparison = Comparison::asked("lattices", 100_000);
     comparison.bounds();
-    for case in 1..=cases {
-        comparison.case = case;
-        comparison.compare();
-    }
-    comparison.report(cases);
-    if comparison.differences > 0 {
-        std::process::exit(1);
-    }
+    comparison.each_case(Comparison::compare);
+    comparison.report();
+    comparison.end();
 }

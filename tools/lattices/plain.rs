@@ -2,20 +2,8 @@
 //! map of the spellings, every prefix is kept in a set, every lattice is read back edge by edge. Nothing here is shared with
 //! the proved code or with the Rust original.
 
+use crate::no::{no, No};
 use std::collections::{BTreeMap, BTreeSet};
-
-/// A refusal: its number, its place, and which part of its sentence applies.
-#[derive(Clone, Copy, Debug, PartialEq, Eq)]
-pub struct No {
-    pub number: u32,
-    pub place: u64,
-    pub why: &'static str,
-}
-
-fn no<T>(number: u32, place: usize, why: &'static str) -> Result<T, No> {
-    let place = place as u64;
-    Err(No { number, place, why })
-}
 
 /// What is lent to be read.
 #[derive(Clone, Debug)]
@@ -39,11 +27,14 @@ pub struct Sizes {
     pub table: usize,
 }
 
-/// A word's lattice: how many characters, and its edges as (start, end, id), by end and then by start.
+/// An edge: start, end, id.
+pub type Edge = (u32, u32, u32);
+
+/// A word's lattice: how many characters, and its edges, by end and then by start.
 #[derive(Clone, Debug, PartialEq, Eq)]
 pub struct Lattice {
     pub n: usize,
-    pub edges: Vec<(u32, u32, u32)>,
+    pub edges: Vec<Edge>,
 }
 
 impl Lattice {
@@ -202,6 +193,40 @@ pub fn build(lent: &Lent, sizes: &Sizes) -> Result<Vec<Lattice>, No> {
     }
 }
 
+/// The edges of n + 2 offsets and of as many starts as ids, or why they are not well formed. `unknown` says it of an id that is
+/// not below `pieces`.
+pub fn edges(
+    offsets: &[u32],
+    starts: &[u32],
+    ids: &[u32],
+    pieces: usize,
+    unknown: &'static str,
+) -> Result<Vec<Edge>, &'static str> {
+    let n = offsets.len() - 2;
+    if offsets[0] != 0 || offsets[n + 1] as usize != starts.len() {
+        return Err("offsets not from 0 to the edge count");
+    }
+    if offsets.windows(2).any(|two| two[0] > two[1]) {
+        return Err("offsets that fall");
+    }
+    let mut edges = Vec::new();
+    for end in 0..=n {
+        for edge in offsets[end] as usize..offsets[end + 1] as usize {
+            if starts[edge] as usize >= end {
+                return Err("a start not before its end");
+            }
+            if edge > offsets[end] as usize && starts[edge - 1] >= starts[edge] {
+                return Err("starts that do not rise");
+            }
+            if ids[edge] as usize >= pieces {
+                return Err(unknown);
+            }
+            edges.push((starts[edge], end as u32, ids[edge]));
+        }
+    }
+    Ok(edges)
+}
+
 /// The lattice of a word of a cache, or why it is not well formed. `from` and `at` are where the words before end.
 fn read(
     cache: &Cache,
@@ -227,27 +252,7 @@ fn read(
         .offsets
         .get(at..at + n + 2)
         .ok_or("offsets outside their slice")?;
-    if offsets[0] != 0 || offsets[n + 1] as usize != starts.len() {
-        return Err("offsets not from 0 to the edge count");
-    }
-    if offsets.windows(2).any(|two| two[0] > two[1]) {
-        return Err("offsets that fall");
-    }
-    let mut edges = Vec::new();
-    for end in 0..=n {
-        for edge in offsets[end] as usize..offsets[end + 1] as usize {
-            if starts[edge] as usize >= end {
-                return Err("a start not before its end");
-            }
-            if edge > offsets[end] as usize && starts[edge - 1] >= starts[edge] {
-                return Err("starts that do not rise");
-            }
-            if ids[edge] as usize >= pieces {
-                return Err("an id with no entry");
-            }
-            edges.push((starts[edge], end as u32, ids[edge]));
-        }
-    }
+    let edges = edges(offsets, starts, ids, pieces, "an id with no entry")?;
     Ok(Lattice { n, edges })
 }
 

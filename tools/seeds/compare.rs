@@ -13,6 +13,11 @@ mod call;
 #[allow(dead_code)]
 #[path = "../lattices/cases.rs"]
 mod cases;
+#[allow(dead_code)]
+#[path = "../common/comparison.rs"]
+mod comparison;
+#[path = "../common/no.rs"]
+mod no;
 #[path = "plain.rs"]
 mod refusals;
 // What tools/lattices/cases.rs is written over.
@@ -25,15 +30,11 @@ mod random;
 mod seeds;
 
 use call::{Lent, Told};
-use random::Random;
+use comparison::ENOUGH;
 use seeds::Rooms;
-use std::collections::BTreeMap;
 
-const SHOWN: usize = 10;
-
-/// What has to come at least once, in as many cases as this.
-const ENOUGH: usize = 2_000;
-const KINDS: [(u32, &str); 26] = [
+/// What has to come at least once.
+const KINDS: [Kind; 26] = [
     (0, "accepted, whole"),
     (0, "accepted, cut"),
     (0, "accepted, damaged, whole"),
@@ -62,41 +63,24 @@ const KINDS: [(u32, &str); 26] = [
     (0, "a word not UTF-8 left out"),
 ];
 /// These take long, so they are rare.
-const RARE: [(u32, &str); 2] = [
+const RARE: [Kind; 2] = [
     (7, "more than 16,384 words"),
     (7, "a text over 1,048,576 bytes"),
 ];
 const ENOUGH_FOR_RARE: usize = 20_000;
 
-struct Comparison {
-    random: Random,
-    case: usize,
-    counts: BTreeMap<(u32, &'static str), u64>,
+/// A refusal's number or 0, and why.
+type Kind = (u32, &'static str);
+
+#[derive(Default)]
+struct Sums {
     lists: usize,
     pieces: usize,
-    differences: usize,
 }
 
+type Comparison = comparison::Comparison<Kind, Sums>;
+
 impl Comparison {
-    fn difference(
-        &mut self,
-        what: &str,
-        wanted: impl std::fmt::Debug,
-        found: impl std::fmt::Debug,
-    ) {
-        self.differences += 1;
-        if self.differences <= SHOWN {
-            println!(
-                "case {}: {what}\n  wanted {wanted:?}\n  found  {found:?}",
-                self.case
-            );
-        }
-    }
-
-    fn count(&mut self, number: u32, why: &'static str) {
-        *self.counts.entry((number, why)).or_default() += 1;
-    }
-
     /// The original's list against what the slots hold.
     fn accepted(
         &mut self,
@@ -139,14 +123,14 @@ impl Comparison {
             self.difference("the words", (kept, counts), (&slots.kept, &slots.counts));
         }
         let uncut = refusals::uncut(lent, &counted);
-        self.lists += 1;
-        self.pieces += pieces.len();
-        self.count(0, good[usize::from(uncut > pieces.len())]);
+        self.sums.lists += 1;
+        self.sums.pieces += pieces.len();
+        self.count((0, good[usize::from(uncut > pieces.len())]));
         if uncut == slots.tallies.len() {
-            self.count(0, "exactly full");
+            self.count((0, "exactly full"));
         }
         if words.len() < refusals::words(lent).len() {
-            self.count(0, "a word not UTF-8 left out");
+            self.count((0, "a word not UTF-8 left out"));
         }
     }
 
@@ -157,7 +141,7 @@ impl Comparison {
         match (wanted, said) {
             (Ok(words), Ok(told)) => self.accepted(good, lent, &slots, &words, told),
             (Err(no), said) => {
-                self.count(no.number, no.why);
+                self.count((no.number, no.why));
                 if Err((no.number, no.place)) != said {
                     self.difference("a refusal", no, said);
                 }
@@ -181,7 +165,7 @@ impl Comparison {
             1 => slots.tallies.truncate(one_less),
             _ => slots.scores.truncate(one_less),
         }
-        self.count(7, "one over");
+        self.count((7, "one over"));
         let said = call::seed(lent, &mut slots);
         if said != Err((7, 1)) {
             self.difference("one over", "NoRoom at 1", said);
@@ -203,57 +187,20 @@ impl Comparison {
         );
     }
 
-    fn report(&mut self, cases: usize) {
-        for ((number, why), count) in &self.counts {
-            println!("{count:>9}  {number:>2}  {why}");
-        }
-        let rare = RARE.iter().filter(|_| cases >= ENOUGH_FOR_RARE);
-        for kind in KINDS.iter().filter(|_| cases >= ENOUGH).chain(rare) {
-            if !self.counts.contains_key(kind) {
-                self.difference("never came", kind, "none");
-            }
-        }
+    fn report(&mut self) {
+        self.show(|(number, why)| format!("{number:>2}  {why}"));
+        self.demand(KINDS, ENOUGH);
+        self.demand(RARE, ENOUGH_FOR_RARE);
         println!(
-            "seeds: {cases} cases, {} lists, {} pieces, {} differences",
-            self.lists, self.pieces, self.differences
+            "seeds: {} cases, {} lists, {} pieces, {} differences",
+            self.cases, self.sums.lists, self.sums.pieces, self.differences
         );
     }
 }
 
-/// The numbers after --cases and --seed.
-fn arguments() -> Result<(usize, u64), String> {
-    let (mut cases, mut seed) = (20_000, 1);
-    let mut words = std::env::args().skip(1);
-    while let Some(word) = words.next() {
-        let number = words.next().and_then(|number| number.parse().ok());
-        match (word.as_str(), number) {
-            ("--cases", Some(number)) => cases = number as usize,
-            ("--seed", Some(number)) => seed = number,
-            _ => return Err(format!("seeds: --cases N or --seed N, and not {word}")),
-        }
-    }
-    Ok((cases, seed))
-}
-
 fn main() {
-    let (cases, seed) = arguments().unwrap_or_else(|reason| {
-        eprintln!("{reason}");
-        std::process::exit(2);
-    });
-    let mut comparison = Comparison {
-        random: Random(seed),
-        case: 0,
-        counts: BTreeMap::new(),
-        lists: 0,
-        pieces: 0,
-        differences: 0,
-    };
-    for case in 1..=cases {
-        comparison.case = case;
-        comparison.compare();
-    }
-    comparison.report(cases);
-    if comparison.differences > 0 {
-        std::process::exit(1);
-    }
+    let mut comparison = Comparison::asked("seeds", 20_000);
+    comparison.each_case(Comparison::compare);
+    comparison.report();
+    comparison.end();
 }

@@ -2,20 +2,8 @@
 //! is counted in a map. Nothing here is shared with the proved code or with the Rust original.
 
 use crate::call::{part, Lent, Slots};
+use crate::no::{no, No};
 use std::collections::{BTreeMap, BTreeSet};
-
-/// A refusal: its number, its place, and which part of its sentence applies.
-#[derive(Clone, Copy, Debug, PartialEq, Eq)]
-pub struct No {
-    pub number: u32,
-    pub place: u64,
-    pub why: &'static str,
-}
-
-fn no<T>(number: u32, place: usize, why: &'static str) -> Result<T, No> {
-    let place = place as u64;
-    Err(No { number, place, why })
-}
 
 /// A lent word: its begin, its bytes' count and its frequency. "the shorter of both lists counts"
 pub type Word = (u32, u32, u64);

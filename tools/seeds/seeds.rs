@@ -126,27 +126,25 @@ pub fn rooms(random: &mut Random, lent: &Lent) -> Rooms {
 
 /// Slots that hold numbers of every size, so that nothing that was there before can be taken for a result.
 pub fn slots(random: &mut Random, rooms: &Rooms) -> Slots {
-    let mut any = || random.bits() >> (random.bits() % 64);
-    let mut numbers = |slots: usize| -> Vec<u64> { (0..slots).map(|_| any()).collect() };
-    let mut small =
-        |slots: usize| -> Vec<u32> { numbers(slots).iter().map(|number| *number as u32).collect() };
-    let (kept, chars, places) = (small(rooms.kept), small(rooms.chars), small(rooms.places));
-    let (order, work) = (small(rooms.order), small(rooms.work));
-    let (pieces, table) = (small(rooms.pieces), small(rooms.table));
-    let scores = numbers(rooms.scores)
+    let (kept, chars) = (random.junk(rooms.kept), random.junk(rooms.chars));
+    let places = random.junk(rooms.places);
+    let (order, work) = (random.junk(rooms.order), random.junk(rooms.work));
+    let (pieces, table) = (random.junk(rooms.pieces), random.junk(rooms.table));
+    let scores = random
+        .numbers(rooms.scores)
         .into_iter()
         .map(f64::from_bits)
         .collect();
     Slots {
         kept,
-        counts: numbers(rooms.counts),
+        counts: random.numbers(rooms.counts),
         chars,
         places,
         order,
         work,
-        ranks: numbers(rooms.ranks),
+        ranks: random.numbers(rooms.ranks),
         pieces,
-        tallies: numbers(rooms.tallies),
+        tallies: random.numbers(rooms.tallies),
         scores,
         table,
     }
