@@ -76,16 +76,28 @@ pub fn words_of(random: &mut Random, scripts: &[Script]) -> Vec<String> {
     words
 }
 
+/// Where each character of a word begins, and where the last one ends.
+pub fn boundaries(word: &str) -> Vec<usize> {
+    let starts = word.char_indices().map(|(at, _)| at);
+    starts.chain([word.len()]).collect()
+}
+
+/// The strings one after the other, and two numbers each: where its bytes begin, and how many they are.
+pub fn spans<S: AsRef<str>>(strings: &[S]) -> (Vec<u8>, Vec<u32>) {
+    let (mut text, mut numbers) = (Vec::new(), Vec::new());
+    for string in strings.iter().map(AsRef::as_ref) {
+        numbers.extend([text.len() as u32, string.len() as u32]);
+        text.extend(string.as_bytes());
+    }
+    (text, numbers)
+}
+
 /// The letters, then the substrings of 2 to 16 characters that have the most characters in all, then by their bytes.
 pub fn pieces(words: &[String]) -> Vec<String> {
     let mut counts: HashMap<&str, usize> = HashMap::new();
     let mut letters = BTreeSet::new();
     for word in words {
-        let at: Vec<usize> = word
-            .char_indices()
-            .map(|(at, _)| at)
-            .chain([word.len()])
-            .collect();
+        let at = boundaries(word);
         for start in 0..at.len() - 1 {
             letters.insert(&word[at[start]..at[start + 1]]);
             for end in start + 2..at.len().min(start + SETTING + 1) {

@@ -20,6 +20,7 @@ mod one_word;
 #[allow(dead_code)]
 #[path = "../math/random.rs"]
 mod random;
+mod tables;
 
 use causeylark::slices::{self, Word};
 use causeylark::{Cache, Cut, Lattice};

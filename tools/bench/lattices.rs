@@ -9,17 +9,20 @@
 //! exactly the room that the edges take, where they have to be counted before they are written. Caches that are pruned are
 //! built before the clock starts.
 
-use causeylark::slices::{self, Lent, Results, Work};
+use causeylark::slices::{self, Lent};
 use std::hint::black_box;
-use std::time::Instant;
 
+mod clock;
 mod corpus;
 #[allow(dead_code)]
 #[path = "../math/random.rs"]
 mod random;
+mod tables;
 
-use corpus::{pieces, words, SETTING};
+use clock::{median, timed};
+use corpus::{pieces, spans, words, SETTING};
 use random::Random;
+use tables::{Places, Tables};
 
 const ROUNDS: usize = 15;
 
@@ -41,50 +44,12 @@ fn quarter(random: &mut Random, pieces: usize) -> Vec<u32> {
     remap
 }
 
-fn spans(strings: &[String]) -> (Vec<u8>, Vec<u32>) {
-    let mut from = 0;
-    let mut numbers = Vec::new();
-    for string in strings {
-        numbers.extend([from, string.len() as u32]);
-        from += string.len() as u32;
-    }
-    (strings.concat().into_bytes(), numbers)
-}
-
-/// The four slices of a cache.
-#[derive(Clone, PartialEq)]
-struct Slices {
-    offsets: Vec<u32>,
-    starts: Vec<u32>,
-    ids: Vec<u32>,
-    spans: Vec<u32>,
-}
-
-impl Slices {
-    /// Slots that suffice for whatever edges so many words of so many bytes have, as include/causeylark.h counts them.
-    fn ample(words: usize, bytes: usize) -> Slices {
-        Slices {
-            offsets: vec![0; bytes + 2 * words],
-            starts: vec![0; SETTING * bytes],
-            ids: vec![0; SETTING * bytes],
-            spans: vec![0; 4 * words],
-        }
-    }
-
-    fn lent(&mut self) -> Results<'_> {
-        Results {
-            offsets: &mut self.offsets,
-            starts: &mut self.starts,
-            ids: &mut self.ids,
-            spans: &mut self.spans,
-        }
-    }
-
+impl Tables {
     /// As large as what the original has built, or left.
-    fn like(theirs: &[original::Lattice]) -> Slices {
+    fn like(theirs: &[original::Lattice]) -> Tables {
         let edges = theirs.iter().map(|lattice| lattice.edges.len()).sum();
         let offsets = theirs.iter().map(|lattice| lattice.offsets.len()).sum();
-        Slices {
+        Tables {
             offsets: vec![0; offsets],
             starts: vec![0; edges],
             ids: vec![0; edges],
@@ -119,25 +84,17 @@ impl Row {
     }
 
     fn time<T>(&mut self, call: impl FnOnce() -> T) -> T {
-        let begun = Instant::now();
-        let answer = black_box(call());
-        self.times.push(begun.elapsed().as_secs_f64());
-        answer
-    }
-
-    fn median(&self) -> f64 {
-        let mut times = self.times.clone();
-        times.sort_by(f64::total_cmp);
-        times[times.len() / 2]
+        timed(&mut self.times, call)
     }
 
     fn show(&self, against: &Row) {
         let least = self.times.iter().copied().fold(f64::INFINITY, f64::min);
-        let (median, ratio) = (self.median(), self.median() / against.median());
+        let middle = median(&self.times);
+        let ratio = middle / median(&against.times);
         println!(
             "{:<36}  {:8.2}  {:8.2}  {ratio:5.2}",
             self.name,
-            1e3 * median,
+            1e3 * middle,
             1e3 * least
         );
     }
@@ -167,12 +124,11 @@ fn main() {
             .map(|piece| piece.chars().count())
             .sum::<usize>()
             + 1);
-    let (mut keys, mut ends, mut table) =
-        (vec![0; places], vec![0; places], vec![0; 2 * pieces.len()]);
+    let mut work = Places::of(places, pieces.len());
     let theirs = original::Cache::build(SETTING, &word_texts, &original::Trie::build(&piece_texts))
         .lattices();
-    let mut ours = Slices::like(&theirs);
-    let mut roomy = Slices::ample(words.len(), text.len());
+    let mut ours = Tables::like(&theirs);
+    let mut roomy = Tables::ample(words.len(), text.len());
     let edges = ours.starts.len();
     println!(
         "{} words, {} bytes, {} characters, {} pieces, {edges} edges, {places} places, {ROUNDS} rounds",
@@ -201,13 +157,9 @@ fn main() {
             walked.time(|| original::Cache::build(SETTING, black_box(&word_texts), &trie));
         // The sum of the two: a trie that is kept is walked as warm as one just built.
         *both.times.last_mut().unwrap() += walked.times.last().unwrap();
-        for (row, slices) in [(&mut ample, &mut roomy), (&mut exact, &mut ours)] {
-            let work = Work {
-                keys: &mut keys,
-                ends: &mut ends,
-                table: &mut table,
-            };
-            let said = row.time(|| slices::build(black_box(lent), slices.lent(), work));
+        for (row, tables) in [(&mut ample, &mut roomy), (&mut exact, &mut ours)] {
+            let work = work.lent();
+            let said = row.time(|| slices::build(black_box(lent), tables.lent(), work));
             assert_eq!(said, Ok(edges), "build");
         }
         let own = wrapped.time(|| {
@@ -219,11 +171,11 @@ fn main() {
         let said = retained.time(|| slices::retain(left.lent(), words.len(), black_box(&remap)));
         if round == 0 {
             // The first round warms up, and is looked at.
-            for slices in [&roomy, &ours] {
-                assert!(slices.hold(&theirs), "not the original's lattices");
+            for tables in [&roomy, &ours] {
+                assert!(tables.hold(&theirs), "not the original's lattices");
             }
             let theirs = cache.lattices();
-            assert_eq!(said, Ok(Slices::like(&theirs).starts.len()), "retain");
+            assert_eq!(said, Ok(Tables::like(&theirs).starts.len()), "retain");
             assert!(left.hold(&theirs), "not the original's lattices, pruned");
             for row in [
                 &mut both,

@@ -8,9 +8,11 @@
 //! With the trie built once: one cache of 16,384 such words, and the best cut of each. Ours is the two calls, of which each
 //! best cut looks at all 8,000 scores; and again with the core in the place of the second, as training has it.
 
+use crate::corpus::{boundaries, spans};
+use crate::tables::{Places, Tables};
 use crate::{call_viterbi, core_viterbi, original, scores_of};
 use crate::{measure, Answers, Lent as Words, Row, Work as Slots, SETTING};
-use causeylark::slices::{self, Lent, Pieces, Results, Word, Work};
+use causeylark::slices::{self, Lent, Pieces, Word};
 use causeylark::{Cache, Cut};
 use std::cell::RefCell;
 use std::collections::BTreeSet;
@@ -20,11 +22,6 @@ const CHARACTERS: usize = 10;
 const WORDS: usize = 16_384;
 /// Of these words so many are cut whole.
 const WHOLE: usize = 32;
-
-fn boundaries(word: &str) -> Vec<usize> {
-    let starts = word.char_indices().map(|(at, _)| at);
-    starts.chain([word.len()]).collect()
-}
 
 /// Distinct stretches of 10 characters of the words.
 fn stretches(words: &[String]) -> Vec<&str> {
@@ -49,67 +46,7 @@ fn prefixes(pieces: &[&str]) -> usize {
     distinct.len()
 }
 
-fn spans(strings: &[&str]) -> (Vec<u8>, Vec<u32>) {
-    let (mut from, mut numbers) = (0, Vec::new());
-    for string in strings {
-        numbers.extend([from, string.len() as u32]);
-        from += string.len() as u32;
-    }
-    (strings.concat().into_bytes(), numbers)
-}
-
-/// The work slices of a trie with so many places.
-struct Places {
-    keys: Vec<u64>,
-    ends: Vec<u32>,
-    table: Vec<u32>,
-}
-
-impl Places {
-    fn of(places: usize) -> Places {
-        Places {
-            keys: vec![0; places],
-            ends: vec![0; places],
-            table: vec![0; 2 * PIECES],
-        }
-    }
-
-    fn lent(&mut self) -> Work<'_> {
-        Work {
-            keys: &mut self.keys,
-            ends: &mut self.ends,
-            table: &mut self.table,
-        }
-    }
-}
-
-/// The four slices of a cache, with room for whatever edges the words have.
-struct Tables {
-    offsets: Vec<u32>,
-    starts: Vec<u32>,
-    ids: Vec<u32>,
-    spans: Vec<u32>,
-}
-
 impl Tables {
-    fn of(words: usize, bytes: usize) -> Tables {
-        Tables {
-            offsets: vec![0; bytes + 2 * words],
-            starts: vec![0; SETTING * bytes],
-            ids: vec![0; SETTING * bytes],
-            spans: vec![0; 4 * words],
-        }
-    }
-
-    fn lent(&mut self) -> Results<'_> {
-        Results {
-            offsets: &mut self.offsets,
-            starts: &mut self.starts,
-            ids: &mut self.ids,
-            spans: &mut self.spans,
-        }
-    }
-
     /// Each word's lattice with all scores.
     fn words<'a>(&'a self, scores: &'a [f64]) -> Words<'a> {
         let word = |span: &[u32]| {
@@ -156,7 +93,7 @@ fn whole(words: &[&str], pieces: &[&str], scores: &[f64]) {
         scores,
     };
     let ours = |places: usize| {
-        let work = RefCell::new(Places::of(places));
+        let work = RefCell::new(Places::of(places, PIECES));
         move |word: usize, answers: &mut Answers| {
             let (mut work, mut path) = (work.borrow_mut(), [0; CHARACTERS]);
             let said = slices::cut(words[word].as_bytes(), lent, &mut path, work.lent());
@@ -204,8 +141,8 @@ fn once(words: &[&str], pieces: &[&str], scores: &[f64]) {
     let places = 2 * (prefixes(pieces) + 1);
     let ours = |cut: fn(&Words<'_>, &mut Slots, &mut Answers)| {
         let lends = RefCell::new((
-            Places::of(places),
-            Tables::of(words.len(), text.len()),
+            Places::of(places, PIECES),
+            Tables::ample(words.len(), text.len()),
             Slots::of(CHARACTERS + 1),
         ));
         move |_: usize, answers: &mut Answers| {

@@ -12,20 +12,24 @@
 //!     --rounds N    how many, 5 if not said
 //!     --quick       a quarter of the words alone
 
+#[path = "../common/arguments.rs"]
+mod arguments;
 #[path = "../seeds/call.rs"]
 mod call;
+mod clock;
 #[allow(dead_code)]
 mod corpus;
 #[allow(dead_code)]
 #[path = "../math/random.rs"]
 mod random;
 
+use arguments::or_end;
 use call::{Lent, Slots};
-use corpus::{words_of, SCRIPTS, WORDS};
+use clock::{median, timed};
+use corpus::{spans, words_of, SCRIPTS, WORDS};
 use random::Random;
 use std::collections::BTreeSet;
 use std::hint::black_box;
-use std::time::Instant;
 
 const VOCAB: usize = 8_000;
 const MINIMUM: u64 = 2;
@@ -75,12 +79,7 @@ fn prefixes() -> Vec<String> {
 
 /// The first so many words, and frequencies as a text has them: the early words more often.
 fn lent(words: &[String], length: usize) -> Lent {
-    let mut spans = Vec::new();
-    let mut text = Vec::new();
-    for word in words {
-        spans.extend([text.len() as u32, word.len() as u32]);
-        text.extend(word.as_bytes());
-    }
+    let (text, spans) = spans(words);
     let frequency = |index: usize| 1 + (words.len() / (1 + index)) as u64;
     Lent {
         vocab: VOCAB,
@@ -111,18 +110,6 @@ fn slots(words: usize, positions: usize, pieces: usize) -> Slots {
         scores: vec![0.0; pieces],
         table: vec![0; 2 * words],
     }
-}
-
-fn median(times: &mut [f64]) -> f64 {
-    times.sort_by(f64::total_cmp);
-    1e3 * times[times.len() / 2]
-}
-
-fn timed<T>(times: &mut Vec<f64>, call: impl FnOnce() -> T) -> T {
-    let begun = Instant::now();
-    let answer = black_box(call());
-    times.push(begun.elapsed().as_secs_f64());
-    answer
 }
 
 /// One line: both sides over one list.
@@ -157,7 +144,7 @@ fn measure(name: &str, words: &[String], length: usize, rounds: usize) -> f64 {
         }
     }
     let characters: usize = words.iter().map(|word| word.chars().count()).sum();
-    let (ours, theirs) = (median(&mut ours), median(&mut theirs));
+    let (ours, theirs) = (1e3 * median(&ours), 1e3 * median(&theirs));
     println!(
         "{name:<16}  {length:>2}  {:>6}  {characters:>9}  {uncut:>8}  {theirs:>9.1}  {ours:>9.1}  {:>5.2}",
         words.len(),
@@ -184,10 +171,7 @@ fn arguments() -> Result<(usize, bool), String> {
 }
 
 fn main() {
-    let (rounds, quick) = arguments().unwrap_or_else(|reason| {
-        eprintln!("{reason}");
-        std::process::exit(2);
-    });
+    let (rounds, quick) = or_end(arguments());
     let mut random = Random(1);
     let mut lists: Vec<(String, Vec<String>)> = Vec::new();
     for (name, script) in SCRIPTS {

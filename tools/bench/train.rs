@@ -9,32 +9,25 @@
 //!
 //!     --rounds N    how many, 3 if not said
 
+#[path = "../common/arguments.rs"]
+mod arguments;
+mod clock;
 #[allow(dead_code)]
 mod corpus;
 #[allow(dead_code)]
 #[path = "../math/random.rs"]
 mod random;
 
+use arguments::or_end;
 use causeylark::{train, Settings};
+use clock::{median, timed};
 use corpus::{words_of, SCRIPTS, WORDS};
 use random::Random;
 use std::hint::black_box;
-use std::time::Instant;
 
 const VOCABULARIES: [usize; 2] = [2_000, 8_000];
 const MINIMUM: u64 = 2;
 const LENGTH: usize = 16;
-
-fn milliseconds<T>(of: impl FnOnce() -> T) -> f64 {
-    let began = Instant::now();
-    black_box(of());
-    began.elapsed().as_secs_f64() * 1e3
-}
-
-fn median(times: &mut [f64]) -> f64 {
-    times.sort_by(f64::total_cmp);
-    times[times.len() / 2]
-}
 
 /// Trains both ways, and gives our time in the original's, with our mathematics and with the stock one.
 fn measure(name: &str, words: &[(&str, u64)], vocab_size: usize, rounds: usize) -> (f64, f64) {
@@ -64,11 +57,14 @@ fn measure(name: &str, words: &[(&str, u64)], vocab_size: usize, rounds: usize) 
 
     let mut times = [vec![], vec![], vec![]];
     for _ in 0..rounds {
-        times[0].push(milliseconds(|| train(settings, &bytes, &[])));
-        times[1].push(milliseconds(|| original.train(words)));
-        times[2].push(milliseconds(|| stock.train(words)));
+        // What is made is dropped before the clock stops.
+        timed(&mut times[0], || {
+            drop(black_box(train(settings, &bytes, &[])))
+        });
+        timed(&mut times[1], || drop(black_box(original.train(words))));
+        timed(&mut times[2], || drop(black_box(stock.train(words))));
     }
-    let [ours, theirs, stock] = times.map(|mut times| median(&mut times));
+    let [ours, theirs, stock] = times.map(|times| 1e3 * median(&times));
     println!(
         "{name:<14}  {vocab_size:>5}  {:>6}  {ours:>8.0}  {theirs:>8.0}  {:>5.2}  {stock:>8.0}  {:>5.2}",
         words.len(),
@@ -91,10 +87,7 @@ fn rounds() -> Result<usize, String> {
 }
 
 fn main() {
-    let rounds = rounds().unwrap_or_else(|reason| {
-        eprintln!("{reason}");
-        std::process::exit(2);
-    });
+    let rounds = or_end(rounds());
     println!(
         "{:<14}  {:>5}  {:>6}  {:>8}  {:>8}  {:>5}  {:>8}  {:>5}; {rounds} rounds, in ms",
         "list", "vocab", "words", "ours", "Rust", "ratio", "stock", "ratio"
