@@ -1,5 +1,7 @@
 //! Document 01's examples of cuts, and a refusal of each kind, through the safe wrapper.
 
+mod common;
+
 use causeylark::{c, cut, slices, Cache, Cut, Refusal};
 
 const PIECES: [&[u8]; 4] = [b"a", b"b", b"ab", b"ba"];
@@ -226,14 +228,7 @@ fn a_refusal_is_a_sentence() {
         "BadScore, number 10, at place 3: the score of piece 3 is NaN, above zero or missing."
     );
     for refusal in [Refusal::NoPath, Refusal::NoRoom(4), Refusal::BadLattice(0)] {
-        let said = refusal.to_string();
-        let begins = format!(
-            "{}, number {}, at place {}: ",
-            refusal.name(),
-            refusal.number(),
-            refusal.place()
-        );
-        assert!(said.starts_with(&begins) && said.ends_with('.'), "{said}");
+        common::is_a_sentence(refusal);
     }
 }
 

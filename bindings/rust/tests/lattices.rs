@@ -1,5 +1,7 @@
 //! Document 01's examples of lattices, and a refusal of each kind, through the safe wrapper.
 
+mod common;
+
 use causeylark::{c, slices, Cache, Edge, Lattice, Refusal, PRUNED};
 
 const PIECES: [&[u8]; 4] = [b"a", b"b", b"ab", b"ba"];
@@ -232,14 +234,7 @@ fn a_refusal_is_a_sentence() {
         Refusal::BadPiece(1),
         Refusal::RepeatedPiece(4),
     ] {
-        let said = refusal.to_string();
-        let begins = format!(
-            "{}, number {}, at place {}: ",
-            refusal.name(),
-            refusal.number(),
-            refusal.place()
-        );
-        assert!(said.starts_with(&begins) && said.ends_with('.'), "{said}");
+        common::is_a_sentence(refusal);
     }
 }
 

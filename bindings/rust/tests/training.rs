@@ -1,5 +1,7 @@
 //! Document 01's sample of training, a refusal of each kind, and slices lent by hand, through the safe wrapper.
 
+mod common;
+
 use causeylark::slices::{self, Corpus, Tokens, Told, Training};
 use causeylark::{train, Refusal, Settings, Trained};
 
@@ -12,14 +14,7 @@ fn vocab(vocab_size: usize) -> Settings {
 
 fn refused(settings: Settings, words: &[(&[u8], u64)], specials: &[&[u8]]) -> (u32, u64) {
     let refusal = train(settings, words, specials).unwrap_err();
-    let said = refusal.to_string();
-    let begins = format!(
-        "{}, number {}, at place {}: ",
-        refusal.name(),
-        refusal.number(),
-        refusal.place()
-    );
-    assert!(said.starts_with(&begins) && said.ends_with('.'), "{said}");
+    common::is_a_sentence(refusal);
     (refusal.number(), refusal.place())
 }
 
