@@ -144,7 +144,7 @@ def main():
     parser.add_argument("--cases", type=int, default=2000)
     parser.add_argument("--seed", type=int, default=1)
     options = parser.parse_args(words)
-    if options.command == "drawn" and not (model.build.TARGET / "ours" / "oracle").is_file():
+    if options.command == "drawn" and not model.has_oracle():
         sys.exit("train: there is no target/oracle/ours/oracle: see tools/oracle/README.md")
     began = time.time()
     done, refused = {"cases": cases, "drawn": drawn, "hostile": hostile}[options.command](command or program(), options)

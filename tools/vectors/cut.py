@@ -18,16 +18,11 @@ import math
 import random
 import struct
 import sys
-from pathlib import Path
 
-VECTORS = Path(__file__).resolve().parent
-ROOT = VECTORS.parents[1]
-sys.path.insert(0, str(ROOT / "tools/oracle"))
-sys.path.insert(0, str(VECTORS))
 sys.dont_write_bytecode = True
 
-import build  # noqa: E402
-from lattice import frame, lattice, number, offsets_of  # noqa: E402
+from common import VECTORS, ask_oracle, checks, frame, number, store  # noqa: E402
+from lattice import lattice, offsets_of  # noqa: E402
 from vectors import SCRIPTS, ask, bits, items, line, listed, make_pieces, make_word  # noqa: E402
 
 # What the cases are drawn from. Another text draws others.
@@ -198,7 +193,7 @@ def texts(cuts, answers):
         answered += lines_out(cut, rust)
     asked.append("4200014A\n")
     answered.append(answer(0x50, (BAD_FRAME, len(asked))))
-    return {"cut.in": "".join(asked), "cut.out": "".join(answered)}
+    return {VECTORS / "cut.in": "".join(asked), VECTORS / "cut.out": "".join(answered)}
 
 
 # Cases.
@@ -328,11 +323,10 @@ def stored(cuts):
 
 
 def main(arguments):
-    if arguments not in ([], ["--check"]):
-        sys.exit(__doc__)
+    check = checks(arguments, __doc__)
     cuts = list(make_cuts())
     mine = [own(cut) for cut in cuts]
-    oracle = (build.TARGET / "ours" / "oracle").is_file()
+    oracle = ask_oracle("cut", check)
     if oracle:
         sound = [cut for cut in cuts if cut.sound()]
         answers = iter(ask("ours", [request for cut in sound for request in asked(cut)]))
@@ -340,15 +334,9 @@ def main(arguments):
         for cut, said, others in zip(cuts, mine, rust):
             if said and said != others[:3]:
                 sys.exit(f"cut: document 01 and the Rust differ at {list(asked(cut))}: {said}, {others[:3]}")
-    elif arguments:
-        rust = [said and [*said, shares] for said, shares in zip(mine, stored(cuts))]
     else:
-        sys.exit("cut: there is no target/oracle/ours/oracle, and the answers are the Rust's: see tools/oracle/README.md")
-    for name, text in texts(cuts, rust).items():
-        if not arguments:
-            VECTORS.joinpath(name).write_text(text)
-        elif VECTORS.joinpath(name).read_text() != text:
-            sys.exit(f"cut: tools/vectors/{name} is not what tools/vectors/cut.py writes")
+        rust = [said and [*said, shares] for said, shares in zip(mine, stored(cuts))]
+    store("cut", texts(cuts, rust), check)
     edges = sum(len(cut.starts) for cut in cuts if cut.sound())
     ties = sum(tied(cut) for cut in cuts if cut.sound())
     refused = sum(cut.refused(*ROOMS[:2]) is not None or cut.refused(*ROOMS[4:]) is not None for cut in cuts)
@@ -356,7 +344,7 @@ def main(arguments):
     said = "with the Rust's answers" if oracle else "with no oracle at hand"
     print(
         f"cut: {len(cuts)} lattices, {edges} edges, {ties} with ties, {none} with no path, {refused} refused "
-        f"{'agree' if arguments else 'written'}, {said}"
+        f"{'agree' if check else 'written'}, {said}"
     )
 
 

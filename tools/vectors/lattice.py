@@ -18,14 +18,10 @@ compares lattice.out with these where there is no oracle. Where there is one, al
 
 import random
 import sys
-from pathlib import Path
 
-VECTORS = Path(__file__).resolve().parent
-ROOT = VECTORS.parents[1]
-sys.path.insert(0, str(ROOT / "tools/oracle"))
 sys.dont_write_bytecode = True
 
-import build  # noqa: E402
+from common import VECTORS, ask_oracle, checks, frame, number, store  # noqa: E402
 from vectors import PRUNED, SCRIPTS, ask, hexed, items, line, listed, make_pieces, make_remap, make_word  # noqa: E402
 
 # What the cases are drawn from. Another text draws others.
@@ -143,14 +139,6 @@ def offsets_of(lattice):
 # Lines.
 
 
-def number(width, *values):
-    return b"".join(value.to_bytes(width, "big") for value in values)
-
-
-def frame(kind, body=b""):
-    return f"{kind:02x}{len(body):04x}{body.hex()}\n"
-
-
 def entries_in(entries, kind):
     for entry in entries:
         if isinstance(entry, Span):
@@ -193,7 +181,7 @@ def texts(cases, answers):
             answered += lines_out(refusal, cache)
     asked.append("2200014A\n")
     answered.append(f"31{BAD_FRAME:02x}{len(asked):08x}\n")
-    return {"lattice.in": "".join(asked), "lattice.out": "".join(answered)}
+    return {VECTORS / "lattice.in": "".join(asked), VECTORS / "lattice.out": "".join(answered)}
 
 
 # Cases.
@@ -306,11 +294,10 @@ def make_cases():
 
 
 def main(arguments):
-    if arguments not in ([], ["--check"]):
-        sys.exit(__doc__)
+    check = checks(arguments, __doc__)
     cases = list(make_cases())
     own = [None if case.refusal else case.told for case in cases]
-    oracle = (build.TARGET / "ours" / "oracle").is_file()
+    oracle = ask_oracle("lattice", check)
     if oracle:
         accepted = [case for case in cases if not case.refusal]
         answers = dict(zip(map(id, accepted), ask("ours", map(request, accepted)), strict=True))
@@ -318,16 +305,10 @@ def main(arguments):
         for case, states, others in zip(cases, own, rust):
             if states != others:
                 sys.exit(f"lattice: document 01 and the Rust differ at {request(case)}")
-    elif not arguments:
-        sys.exit("lattice: there is no target/oracle/ours/oracle, and the answers are the Rust's: see tools/oracle/README.md")
-    for name, text in texts(cases, rust if oracle else own).items():
-        if not arguments:
-            VECTORS.joinpath(name).write_text(text)
-        elif VECTORS.joinpath(name).read_text() != text:
-            sys.exit(f"lattice: tools/vectors/{name} is not what tools/vectors/lattice.py writes")
+    store("lattice", texts(cases, rust if oracle else own), check)
     words = sum(len(states[0]) for states in own if states)
     said = "with the Rust's answers" if oracle else "with no oracle at hand"
-    print(f"lattice: {len(cases)} cases, {words} words {'agree' if arguments else 'written'}, {said}")
+    print(f"lattice: {len(cases)} cases, {words} words {'agree' if check else 'written'}, {said}")
 
 
 if __name__ == "__main__":

@@ -17,14 +17,10 @@ there is no oracle. Where there is one, all have to agree."""
 
 import random
 import sys
-from pathlib import Path
 
-VECTORS = Path(__file__).resolve().parent
-ROOT = VECTORS.parents[1]
-sys.path.insert(0, str(ROOT / "tools/oracle"))
 sys.dont_write_bytecode = True
 
-import build  # noqa: E402
+from common import VECTORS, ask_oracle, checks, frame, number, store, utf8  # noqa: E402
 from vectors import SCRIPTS, ask, hexed, items, line, listed  # noqa: E402
 
 # What the cases are drawn from. Another text draws others.
@@ -41,6 +37,8 @@ BAD_SETTING, BAD_WORD, REPEATED_WORD, TOO_HEAVY, EMPTY_CORPUS, NO_ROOM = 2, 3, 4
 class Case:
     """What is lent: settings, words with their frequencies, and how many slots for pieces and positions."""
 
+    shrink, em = "3fe8000000000000", 2
+
     def __init__(self, words, length=16, minimum=2, vocab=8000, seed=None, specials=(), pieces=PIECES, positions=POSITIONS):
         self.words, self.length, self.minimum, self.vocab, self.seed = list(words), length, minimum, vocab, seed
         self.specials, self.pieces, self.positions = list(specials), pieces, positions
@@ -53,13 +51,6 @@ class Case:
 
 
 # The list, by document 01's item 8.
-
-
-def utf8(word):
-    try:
-        return word.decode()
-    except UnicodeDecodeError:
-        return None
 
 
 def counted(case):
@@ -86,6 +77,22 @@ def uncut(case):
     return characters, strings, counts
 
 
+def bad_words(pairs):
+    """The first refusal that applies to words with their frequencies, with the lowest place."""
+    for index, (word, frequency) in enumerate(pairs):
+        if frequency == 0 or len(word) > 255:
+            return BAD_WORD, index
+    words = [word for word, _ in pairs]
+    for index, word in enumerate(words):
+        if word in words[:index]:
+            return REPEATED_WORD, index
+    if sum(frequency * len(utf8(word) or "") for word, frequency in pairs) > 2**48:
+        return TOO_HEAVY, 0
+    if all(utf8(word) is None for word in words):
+        return EMPTY_CORPUS, 0
+    return None
+
+
 def refusal(case):
     """The first that applies, with the lowest place."""
     bounds = case.vocab > 65536, (case.seed or 0) > 1048576, case.length > 32, False, len(case.specials) > 256
@@ -94,17 +101,8 @@ def refusal(case):
     size = sum(len(word) for word, _ in case.words)
     if size > case.positions:
         return NO_ROOM, 0
-    for index, (word, frequency) in enumerate(case.words):
-        if frequency == 0 or len(word) > 255:
-            return BAD_WORD, index
-    words = [word for word, _ in case.words]
-    for index, word in enumerate(words):
-        if word in words[:index]:
-            return REPEATED_WORD, index
-    if sum(frequency * len(utf8(word) or "") for word, frequency in case.words) > 2**48:
-        return TOO_HEAVY, 0
-    if all(utf8(word) is None for word in words):
-        return EMPTY_CORPUS, 0
+    if said := bad_words(case.words):
+        return said
     characters, strings, _ = uncut(case)
     if len(characters) + len(strings) > case.pieces:
         return NO_ROOM, 1
@@ -121,11 +119,14 @@ def told(case):
 # The oracle.
 
 
-def request(case):
+def settings(case):
     seed = "unset" if case.seed is None else case.seed
-    settings = line(case.vocab, seed, case.length, case.minimum, "3fe8000000000000", 2, listed(case.specials, hexed))
+    return line(case.vocab, seed, case.length, case.minimum, case.shrink, case.em, listed(case.specials, hexed))
+
+
+def request(case):
     words = [f"{frequency}:{hexed(word)}" for word, frequency in case.words if utf8(word) is not None]
-    return line("seed", settings, listed(words))
+    return line("seed", settings(case), listed(words))
 
 
 def heard(answer):
@@ -135,14 +136,6 @@ def heard(answer):
 
 
 # Lines.
-
-
-def number(width, *values):
-    return b"".join(value.to_bytes(width, "big") for value in values)
-
-
-def frame(kind, body=b""):
-    return f"{kind:02x}{len(body):04x}{body.hex()}\n"
 
 
 def lines_in(case):
@@ -240,32 +233,25 @@ def stored():
 
 
 def main(arguments):
-    if arguments not in ([], ["--check"]):
-        sys.exit(__doc__)
+    check = checks(arguments, __doc__)
     cases = list(make_cases())
     said = [refusal(case) for case in cases]
     own = [None if no else told(case) for case, no in zip(cases, said)]
     accepted = [index for index, no in enumerate(said) if not no]
-    oracle = (build.TARGET / "ours" / "oracle").is_file()
+    oracle = ask_oracle("seed", check)
     if oracle:
         scores = [[] for _ in cases]
         for index, answer in zip(accepted, ask("ours", [request(cases[index]) for index in accepted]), strict=True):
             rust, scores[index] = heard(answer)
             if rust != own[index]:
                 sys.exit(f"seed: document 01 and the Rust differ at {request(cases[index])}")
-    elif arguments:
-        scores = stored()
     else:
-        sys.exit("seed: there is no target/oracle/ours/oracle, and the answers are the Rust's: see tools/oracle/README.md")
+        scores = stored()
     lines = [line for case in cases for line in lines_in(case)]
     answers = [line for each in zip(cases, said, own, scores, strict=True) for line in lines_out(*each)]
-    for name, text in {"seed.in": "".join(lines), "seed.out": "".join(answers)}.items():
-        if not arguments:
-            VECTORS.joinpath(name).write_text(text)
-        elif VECTORS.joinpath(name).read_text() != text:
-            sys.exit(f"seed: tools/vectors/{name} is not what tools/vectors/seed.py writes")
+    store("seed", {VECTORS / "seed.in": "".join(lines), VECTORS / "seed.out": "".join(answers)}, check)
     pieces = sum(len(answer[1]) for answer in own if answer)
-    done = f"{'agree' if arguments else 'written'}, {'with the Rust' if oracle else 'with no oracle at hand'}"
+    done = f"{'agree' if check else 'written'}, {'with the Rust' if oracle else 'with no oracle at hand'}"
     print(f"seed: {len(accepted)} lists, {pieces} pieces, {len(cases) - len(accepted)} refused {done}")
 
 

@@ -6,8 +6,8 @@
 
 What training makes is the Rust's: the oracle's answer to one `train` request a case. The frames are read here, by document 01's
 sentences, as regular expressions; they share nothing with the proved crate `frames`. The refusals are worked out here too, from
-the table, since the Rust has two of them; those two it has to confirm. So has the list that the rooms are counted from, which
-tools/vectors/seed.py makes by document 01's item 8.
+the table, since the Rust has two of them; those two it has to confirm. tools/vectors/seed.py works out those of the words, and makes
+the list that the rooms are counted from, by document 01's item 8, which the Rust has to confirm too.
 
 The file has a block for each case: `case` and its name, `<` and each line of the input, `>` and each line of the output. Bytes that
 are no printable ASCII stand as \\xNN; `<~` is a last line without its 0a. Without an oracle, --check takes the trained answers from
@@ -16,14 +16,11 @@ the file, and compares the rest."""
 import random
 import re
 import sys
-from pathlib import Path
 
-ROOT = Path(__file__).resolve().parents[2]
-sys.path[:0] = [str(ROOT / "tools/oracle"), str(ROOT / "tools/vectors")]
 sys.dont_write_bytecode = True
 
-import build  # noqa: E402
 import seed  # noqa: E402
+from common import ROOT, ask_oracle, checks, has_oracle, store, utf8  # noqa: E402
 from vectors import SCRIPTS, ask, bits, hexed, items, line, listed, make_corpus, make_word  # noqa: E402
 
 FILE = ROOT / "crates/train/cases"
@@ -31,7 +28,7 @@ SEED = "train 1"
 # The program's room.
 WORDS, WORD_BYTES, PIECES, EDGES, RESULT_BYTES = 256, 8192, 1024, 8192, 65536
 # The numbers of document 01's table.
-BAD_FRAME, BAD_SETTING, BAD_WORD, REPEATED_WORD, TOO_HEAVY, EMPTY_CORPUS, NO_ROOM, VOCAB_TOO_SMALL = range(1, 9)
+BAD_FRAME, BAD_SETTING, EMPTY_CORPUS, NO_ROOM, VOCAB_TOO_SMALL = 1, 2, 6, 7, 8
 
 
 # The frames in: document 01, "Frames".
@@ -53,15 +50,12 @@ class BadFrame(Exception):
     """The line that breaks the rules."""
 
 
-class Job:
+class Job(seed.Case):
     """What the frames of an input say."""
 
-    def __init__(self, vocab, seed, length, minimum, shrink, em, specials, words):
-        self.vocab, self.seed, self.length, self.minimum = vocab, seed, length, minimum
-        self.shrink, self.em, self.specials, self.words = shrink, em, specials, words
-
-    def target(self):
-        return max(0, self.vocab - len(self.specials))
+    def __init__(self, vocab, size, length, minimum, shrink, em, specials, words):
+        super().__init__(words, length, minimum, vocab, size, specials)
+        self.shrink, self.em = shrink, em
 
 
 def whole(pattern, text):
@@ -118,13 +112,6 @@ def read(data):
 # The refusals: the table "Numbers that say no", in training's order.
 
 
-def utf8(text):
-    try:
-        return text.decode()
-    except UnicodeDecodeError:
-        return None
-
-
 def over_bounds(job):
     bounds = (
         job.vocab > 65536,
@@ -153,23 +140,14 @@ def refusal(job):
         return NO_ROOM, 5
     if place := over_bounds(job):
         return BAD_SETTING, place
-    for index, (_, frequency) in enumerate(job.words):
-        if frequency == 0:
-            return BAD_WORD, index
-    for index, word in enumerate(words):
-        if word in words[:index]:
-            return REPEATED_WORD, index
-    if sum(frequency * len(utf8(word) or "") for word, frequency in job.words) > 2**48:
-        return TOO_HEAVY, 0
-    if all(utf8(word) is None for word in words):
-        return EMPTY_CORPUS, 0
-    case = seed.Case(job.words, job.length, job.minimum, job.vocab, job.seed, job.specials)
-    characters, strings, _ = seed.uncut(case)
+    if said := seed.bad_words(job.words):
+        return said
+    characters, strings, _ = seed.uncut(job)
     if len(characters) + len(strings) > PIECES:
         return NO_ROOM, 1
     if job.target() < len(characters):
         return VOCAB_TOO_SMALL, len(characters) + len(job.specials)
-    if edges(job, characters + strings[: max(0, case.pool() - len(characters))]) > EDGES:
+    if edges(job, characters + strings[: max(0, job.pool() - len(characters))]) > EDGES:
         return NO_ROOM, 3
     return None
 
@@ -178,9 +156,7 @@ def refusal(job):
 
 
 def request(job):
-    size = "unset" if job.seed is None else job.seed
-    settings = line(job.vocab, size, job.length, job.minimum, job.shrink, job.em, listed(job.specials, hexed))
-    return line("train", settings, listed(job.words, lambda word: f"{word[1]}:{hexed(word[0])}"))
+    return line("train", seed.settings(job), listed(job.words, lambda word: f"{word[1]}:{hexed(word[0])}"))
 
 
 def refused(number, place):
@@ -221,7 +197,7 @@ def judge(data):
 def expect(inputs, known=None):
     """The output of each input; None where it takes an oracle and there is none, unless the output is known."""
     judged = [judge(data) for data in inputs]
-    if not (build.TARGET / "ours" / "oracle").is_file():
+    if not has_oracle():
         return [text or (known or {}).get(data) for data, (text, _) in zip(inputs, judged)]
     asked = [(index, of) for index, (_, of) in enumerate(judged) if of]
     requests = [of if isinstance(of, str) else of[1] for _, of in asked]
@@ -550,34 +526,28 @@ def stored(text):
 
 
 def main(arguments):
-    if arguments not in ([], ["--check"]):
-        sys.exit(__doc__)
-    oracle = (build.TARGET / "ours" / "oracle").is_file()
-    if not oracle and not arguments:
-        sys.exit("train: there is no target/oracle/ours/oracle, and the answers are the Rust's: see tools/oracle/README.md")
+    check = checks(arguments, __doc__)
+    oracle = ask_oracle("train", check)
     cases = list(make_cases())
     names = [name for name, _ in cases]
     if len(set(names)) < len(names):
         sys.exit(f"train: two cases have one name: {sorted(name for name in names if names.count(name) > 1)[:4]}")
-    known = {data: output for _, data, output in stored(FILE.read_text())} if arguments else {}
+    known = {data: output for _, data, output in stored(FILE.read_text())} if check else {}
     outputs = expect([data for _, data in cases], known)
     if outputs[0] != SAMPLE_OUT:
         sys.exit("train: document 01's sample has another output")
     text = "".join(block(name, data, output or "> ?") for (name, data), output in zip(cases, outputs, strict=True))
     if list(stored(text)) != [(name, data, output) for (name, data), output in zip(cases, outputs)]:
         sys.exit("train: the file does not say what it should")
-    if not arguments:
-        FILE.write_text(text)
-    elif FILE.read_text() != text:
-        sys.exit("train: crates/train/cases is not what tools/vectors/train.py writes")
+    store("train", {FILE: text}, check)
     kinds = {}
     for output in outputs:
         said = int(output[2:4], 16), int(output[4:12], 16)
         said = said if said[0] in (BAD_SETTING, NO_ROOM) else said[:1]
         kinds[said] = kinds.get(said, 0) + 1
-    done = f"{'agree' if arguments else 'written'}, {'with the Rust' if oracle else 'with no oracle at hand'}"
+    done = f"{'agree' if check else 'written'}, {'with the Rust' if oracle else 'with no oracle at hand'}"
     print(f"train: {len(cases)} inputs, {len(cases) - kinds[(0,)]} refused {done}")
-    if not arguments:
+    if not check:
         print("train: " + ", ".join(f"{' at '.join(map(str, said))}: {number}" for said, number in sorted(kinds.items())))
 
 

@@ -11,7 +11,10 @@ is 1 for UTF-8, and NUMBER (2) counts the characters; or WHOLE is 0, and NUMBER 
 no character. With --check it writes nothing, and fails where the files in the tree are others."""
 import itertools
 import sys
-from pathlib import Path
+
+sys.dont_write_bytecode = True
+
+from common import ROOT, checks, store  # noqa: E402
 
 # RFC 3629, section 7, and the sequences that sections 3 and 10 warn of
 RFC = ['41e289a2ce912e', 'ed959ceab5adec96b4', 'e697a5e69cace8aa9e', 'efbbbff0a38eb4', 'c080', 'eda18cedbeb4', '2f2e2e2f',
@@ -102,18 +105,13 @@ def whole(sequence):
 
 
 def main(arguments):
-    if arguments not in ([], ['--check']):
-        sys.exit(__doc__)
+    check = checks(arguments, __doc__)
     sequences = [bytes.fromhex(s) for s in RFC] + list(single()) + list(boundaries()) + list(forms()) + list(placed())
     lines = ['%s %06x %x %x %02x\n' % (s.hex(), *front(s), *whole(s)) for s in dict.fromkeys(sequences)]
-    crate = Path(__file__).resolve().parents[2] / 'crates/utf8_vectors'
-    files = {'stdin': ''.join(lines), 'stdout': 'utf8_vectors: %d sequences, 0 differ\n' % len(lines)}
-    for name, text in files.items():
-        if not arguments:
-            crate.joinpath(name).write_bytes(text.encode())
-        elif crate.joinpath(name).read_bytes() != text.encode():
-            sys.exit('utf8: crates/utf8_vectors/%s is not what tools/vectors/utf8.py writes' % name)
-    print('utf8: %d sequences %s' % (len(lines), 'agree' if arguments else 'written'))
+    crate = ROOT / 'crates/utf8_vectors'
+    count = 'utf8_vectors: %d sequences, 0 differ\n' % len(lines)
+    store('utf8', {crate / 'stdin': ''.join(lines), crate / 'stdout': count}, check)
+    print('utf8: %d sequences %s' % (len(lines), 'agree' if check else 'written'))
 
 
 if __name__ == '__main__':
