@@ -16,7 +16,6 @@ frames, and cut.out ends with BadFrame at that line."""
 
 import math
 import random
-import struct
 import sys
 
 sys.dont_write_bytecode = True
