@@ -55,10 +55,10 @@ pub fn begin(
         &mut scores[..most],
         table,
     );
-    lent::clear_numbers(table);
-    lent::clear_numbers(chars);
-    lent::clear_numbers(places);
-    trie::clear_keys(tallies);
+    slots::clear_numbers(table);
+    slots::clear_numbers(chars);
+    slots::clear_numbers(places);
+    slots::clear_keys(tallies);
     started
 }
 
@@ -66,6 +66,6 @@ pub fn begin(
 pub fn clear_words(kept: &mut [u32], counts: &mut [u64])
     ensures { λ _. ⌜ (now (kept .exit) ≡ replicate (length (now (kept .entry))) 0) × (now (counts .exit) ≡ replicate (length (now (counts .entry))) 0) ⌝ }
 {
-    lent::clear_numbers(kept);
-    trie::clear_keys(counts);
+    slots::clear_numbers(kept);
+    slots::clear_keys(counts);
 }

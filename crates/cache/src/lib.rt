@@ -134,8 +134,8 @@ pub fn build(
         ends,
         table,
     );
-    trie::clear_keys(keys);
-    trie::clear_ends(ends);
-    trie::clear_ends(table);
+    slots::clear_keys(keys);
+    slots::clear_numbers(ends);
+    slots::clear_numbers(table);
     answer
 }

@@ -8,8 +8,8 @@
 use connected::is_connected_core;
 use expectations::expectations_core;
 use formed::read;
-use lent::clear_floats;
 use math::ln;
+use slots::clear_floats;
 ghost use mathlib.Core.Path.{_≡_};
 ghost use mathlib.Core.List.{List, map};
 ghost use Prim.Native.Nat.{_≤_, max};

@@ -18,12 +18,12 @@ fn clear_pieces(
 )
     ensures { λ _. ⌜ (now (order .exit) ≡ replicate (length (now (order .entry))) 0) × (now (work .exit) ≡ replicate (length (now (work .entry))) 0) × (now (ranks .exit) ≡ replicate (length (now (ranks .entry))) 0) × (now (pieces .exit) ≡ replicate (length (now (pieces .entry))) 0) × (now (scores .exit) ≡ replicate (length (now (scores .entry))) nought) × (now (expected .exit) ≡ replicate (length (now (expected .entry))) nought) ⌝ }
 {
-    lent::clear_numbers(order);
-    lent::clear_numbers(work);
-    trie::clear_keys(ranks);
-    lent::clear_numbers(pieces);
-    lent::clear_floats(scores);
-    lent::clear_floats(expected);
+    slots::clear_numbers(order);
+    slots::clear_numbers(work);
+    slots::clear_keys(ranks);
+    slots::clear_numbers(pieces);
+    slots::clear_floats(scores);
+    slots::clear_floats(expected);
 }
 
 // Zeros in the trie and in the lattices.
@@ -37,12 +37,12 @@ fn clear_lattices(
 )
     ensures { λ _. ⌜ (now (keys .exit) ≡ replicate (length (now (keys .entry))) 0) × (now (ends .exit) ≡ replicate (length (now (ends .entry))) 0) × (now (offsets .exit) ≡ replicate (length (now (offsets .entry))) 0) × (now (starts .exit) ≡ replicate (length (now (starts .entry))) 0) × (now (ids .exit) ≡ replicate (length (now (ids .entry))) 0) × (now (spans .exit) ≡ replicate (length (now (spans .entry))) 0) ⌝ }
 {
-    trie::clear_keys(keys);
-    lent::clear_numbers(ends);
-    lent::clear_numbers(offsets);
-    lent::clear_numbers(starts);
-    lent::clear_numbers(ids);
-    lent::clear_numbers(spans);
+    slots::clear_keys(keys);
+    slots::clear_numbers(ends);
+    slots::clear_numbers(offsets);
+    slots::clear_numbers(starts);
+    slots::clear_numbers(ids);
+    slots::clear_numbers(spans);
 }
 
 // What follows a start, and zeros in all work slices of it.

@@ -4,10 +4,6 @@
 use formed::Span;
 use formed::formed;
 ghost use mathlib.Core.Path.{_≡_};
-ghost use mathlib.Core.Bool.{false};
-ghost use lib.IntN.{pos};
-ghost use lib.Ieee.{fin};
-ghost use lib.ListN.{length, replicate};
 ghost use Rattle.laws.specs.Tests.{Says};
 ghost use Rattle.scores.specs.Floats.{zero-or-below};
 ghost use Rattle.formed.specs.Word.{WordFormed};
@@ -57,26 +53,4 @@ pub fn check_scores(scores: &[f64]) -> Scored
         i += 1;
     }
     Scored::Fine
-}
-
-// Zeros in all slots.
-pub fn clear_floats(slots: &mut [f64])
-    ensures { λ _. ⌜ now (slots .exit) ≡ replicate (length (now (slots .entry))) (fin false 0 (pos 0)) ⌝ }
-{
-    let mut slot = 0;
-    while slot < slots.len() {
-        slots[slot] = 0.0;
-        slot += 1;
-    }
-}
-
-// The same of numbers.
-pub fn clear_numbers(slots: &mut [u32])
-    ensures { λ _. ⌜ now (slots .exit) ≡ replicate (length (now (slots .entry))) 0 ⌝ }
-{
-    let mut slot = 0;
-    while slot < slots.len() {
-        slots[slot] = 0;
-        slot += 1;
-    }
 }

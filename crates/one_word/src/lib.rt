@@ -190,8 +190,8 @@ pub fn cut(
         ends,
         table,
     );
-    trie::clear_keys(keys);
-    trie::clear_ends(ends);
-    trie::clear_ends(table);
+    slots::clear_keys(keys);
+    slots::clear_numbers(ends);
+    slots::clear_numbers(table);
     answer
 }

@@ -31,30 +31,6 @@ use Rattle.trie.proofs.Same.{length-newest}
 pub indexing-good : {keys ends text pieces : List ℕ} (most : ℕ) → length keys ≤ 4294967295 → length ends ≡ length keys → many pieces < 4294967295 → AllGood text pieces most (many pieces) → Indexing keys ends text pieces
 indexing-good most few level ids good = record { few = few; level = level; ids = ids; inside = λ k h. good k h .inside; utf8 = λ k h. good k h .utf8 }
 
--- the slots before p are zero
-pub record Zeroed (slots₀ slots : List ℕ) (p : ℕ) : Type 0 where
-  pub long : length slots ≡ length slots₀
-  pub zero-before : (j : ℕ) → j < p → getD slots j 0 ≡ 0
-
-pub zeroed-none : (slots : List ℕ) → Zeroed slots slots 0
-zeroed-none slots = record { long = refl; zero-before = λ j h. absurd (lt-irrefl 0 (omega arith)) }
-
-module _ {slots₀ slots : List ℕ} {p : ℕ} (z : Zeroed slots₀ slots p) where
-  pub zeroed-more : p < length slots → Zeroed slots₀ (set slots p 0) (p + 1)
-  zeroed-more l =
-      record {
-        long = length-set slots p 0 ∙ z .long;
-        zero-before = λ j h. elim (decLt j p) [
-          | yes a ↦ getD-set-other slots p j 0 0 (λ e. lt-irrefl p (omega arith)) ∙ z .zero-before j a
-          | no a ↦ let e : j ≡ p = omega arith in ap (λ (i : ℕ). getD (set slots p 0) i 0) e ∙ getD-set-same slots p 0 0 l
-        ];
-      }
-
-  pub zeroed-all : length slots ≤ p → slots ≡ zeros (length slots₀)
-  zeroed-all l =
-      let n : length (zeros (length slots₀)) ≡ length slots₀ = length-replicate (length slots₀) 0 in
-      ext-getD 0 slots (zeros (length slots₀)) (z .long ∙ sym n) (λ i h. z .zero-before i (omega arith) ∙ sym (zeros-at (length slots₀) i))
-
 -- the trie of no piece
 pub none-upto : {keys ends : List ℕ} (text pieces : List ℕ) → Trie keys ends [] [] → Upto keys ends text pieces 0 0
 none-upto text pieces t = record { trie = t; counted = refl }

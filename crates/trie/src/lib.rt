@@ -15,14 +15,14 @@
 // A caller walks by a loop of its own, with `places::find` at each character: proofs/Walked.antt says what a step finds.
 // proofs/Theorems.antt has all in document 01's words, and proofs/Same.antt says that the ids are the lattice's.
 use places::Inserted;
+use slots::clear_keys;
+use slots::clear_numbers;
 use utf8::Decoded;
 use utf8::decode_by;
-ghost use mathlib.Core.Path.{_≡_};
 ghost use mathlib.Core.List.{[]};
 ghost use Prim.Native.Nat.{_≤_, _<_};
 ghost use lib.ListN.{length};
 ghost use Rattle.utf8.specs.Chars.{charsOf};
-ghost use Rattle.places.specs.Entries.{zeros};
 ghost use Rattle.trie.specs.Trie.{Trie};
 ghost use Rattle.trie.specs.Contracts.{Grows, Spelling, Reaches, Adding, Adds};
 ghost use Rattle.trie.specs.Index.{Putting, Puts, Indexing, Indexes};
@@ -125,24 +125,6 @@ pub fn add(
     }
 }
 
-// Zeros in all places of keys.
-pub fn clear_keys(slots: &mut [u64])
-    ensures { λ _. ⌜ now (slots .exit) ≡ zeros (length (now (slots .entry))) ⌝ }
-{
-    for p in 0..slots.len() {
-        slots[p] = 0;
-    }
-}
-
-// Zeros in all places of ends.
-pub fn clear_ends(slots: &mut [u32])
-    ensures { λ _. ⌜ now (slots .exit) ≡ zeros (length (now (slots .entry))) ⌝ }
-{
-    for p in 0..slots.len() {
-        slots[p] = 0;
-    }
-}
-
 // Adds piece k of a list to the trie of those before it. That a spelling stands twice is told elsewhere.
 fn put(
     keys: &mut [u64],
@@ -197,7 +179,7 @@ pub fn index(keys: &mut [u64], ends: &mut [u32], text: &[u8], pieces: &[u32]) ->
     ensures { λ r. ⌜ Indexes (now (text .entry)) (now (pieces .entry)) (now (keys .entry)) (now (keys .exit)) (now (ends .exit)) r ⌝ }
 {
     clear_keys(keys);
-    clear_ends(ends);
+    clear_numbers(ends);
     // The root is at most half of the places.
     if keys.len() < 2 {
         return Indexed::NoRoom;

@@ -5,7 +5,7 @@
 // here either: proofs/Theorems.antt says so, and a pass over the edges is saved. The work slices of a best cut are local arrays,
 // made once: a word has at most 255 characters.
 use formed::read;
-use lent::clear_floats;
+use slots::clear_floats;
 use viterbi::path_core;
 ghost use mathlib.Core.Path.{_≡_};
 ghost use mathlib.Core.List.{List};

@@ -10,9 +10,9 @@ use Rattle.begin.proofs.begin.Tie as tie
 use Rattle.begin.proofs.begin.Reads as reads
 use Rattle.begin.proofs.begin.Lts as lts
 use Rattle.fresh.proofs.smaller.Reads as smaller-reads
-use Rattle.lent.proofs.clear_numbers.Reads as clear-numbers-reads
+use Rattle.slots.proofs.clear_numbers.Reads as clear-numbers-reads
 use Rattle.start.proofs.start.Reads as start-reads
-use Rattle.trie.proofs.clear_keys.Reads as clear-keys-reads
+use Rattle.slots.proofs.clear_keys.Reads as clear-keys-reads
 
 -- src/lib.rt:41:9
 smaller-requires : tie.Need-smaller-requires

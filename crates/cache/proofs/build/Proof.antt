@@ -14,12 +14,12 @@ clear-keys-requires : tie.Need-clear-keys-requires
 clear-keys-requires c κs = search needs
 
 -- src/lib.rt:260:5
-clear-ends-requires : tie.Need-clear-ends-requires
-clear-ends-requires c κs = search needs
+clear-numbers-requires : tie.Need-clear-numbers-requires
+clear-numbers-requires c κs = search needs
 
 -- src/lib.rt:261:5
-clear-ends-requires-2 : tie.Need-clear-ends-requires-2
-clear-ends-requires-2 c κs = search needs
+clear-numbers-requires-2 : tie.Need-clear-numbers-requires-2
+clear-numbers-requires-2 c κs = search needs
 
 -- src/lib.rt:239:1
 same-length : tie.Need-same-length
@@ -51,7 +51,7 @@ same-length-7 c = search needs
 
 -- src/lib.rt:239:1
 returns : tie.Need-returns
-returns c = (c .before .before .before .before .before .before .before .before .before .before .before .before .before .before .before .before .before .before .before .before .before .before .before .before .before .before .check-and-build .ensures, record { keys-zero = c .before .before .before .before .before .before .before .before .before .before .clear-keys .ensures ∙ ap (λ (n : ℕ). replicate n 0) (c .before .before .before .before .before .before .before .before .before .before .before .before .before .before .before .before .before .before .before .before .before .before .before .before .before .before .check-and-build .kept .1 .1 .1 .1 .1 .1 .1 .1 .1 .0); ends-zero = c .before .before .before .before .before .before .clear-ends .ensures ∙ ap (λ (n : ℕ). replicate n 0) (c .before .before .before .before .before .before .before .before .before .before .before .before .before .before .before .before .before .before .before .before .before .before .before .before .before .before .check-and-build .kept .1 .1 .1 .1 .1 .1 .1 .1 .1 .1 .0); table-zero = c .before .before .clear-ends2 .ensures ∙ ap (λ (n : ℕ). replicate n 0) (c .before .before .before .before .before .before .before .before .before .before .before .before .before .before .before .before .before .before .before .before .before .before .before .before .before .before .check-and-build .kept .1 .1 .1 .1 .1 .1 .1 .1 .1 .1 .1 .0) })
+returns c = (c .before .before .before .before .before .before .before .before .before .before .before .before .before .before .before .before .before .before .before .before .before .before .before .before .before .before .check-and-build .ensures, record { keys-zero = c .before .before .before .before .before .before .before .before .before .before .clear-keys .ensures ∙ ap (λ (n : ℕ). replicate n 0) (c .before .before .before .before .before .before .before .before .before .before .before .before .before .before .before .before .before .before .before .before .before .before .before .before .before .before .check-and-build .kept .1 .1 .1 .1 .1 .1 .1 .1 .1 .0); ends-zero = c .before .before .before .before .before .before .clear-numbers .ensures ∙ ap (λ (n : ℕ). replicate n 0) (c .before .before .before .before .before .before .before .before .before .before .before .before .before .before .before .before .before .before .before .before .before .before .before .before .before .before .check-and-build .kept .1 .1 .1 .1 .1 .1 .1 .1 .1 .1 .0); table-zero = c .before .before .clear-numbers2 .ensures ∙ ap (λ (n : ℕ). replicate n 0) (c .before .before .before .before .before .before .before .before .before .before .before .before .before .before .before .before .before .before .before .before .before .before .before .before .before .before .check-and-build .kept .1 .1 .1 .1 .1 .1 .1 .1 .1 .1 .1 .0) })
 
 pub build-spec : {M : Type 1} → statement M
 build-spec =
@@ -59,8 +59,8 @@ build-spec =
     (tie.spec
     check-and-build-requires
     clear-keys-requires
-    clear-ends-requires
-    clear-ends-requires-2
+    clear-numbers-requires
+    clear-numbers-requires-2
     same-length
     same-length-2
     same-length-3

@@ -8,8 +8,8 @@ use Rattle.trie.proofs.index.Tie as tie
 clear-keys-requires : tie.Need-clear-keys-requires
 clear-keys-requires c κs = search needs
 
-clear-ends-requires : tie.Need-clear-ends-requires
-clear-ends-requires c κs = search needs
+clear-numbers-requires : tie.Need-clear-numbers-requires
+clear-numbers-requires c κs = search needs
 
 same-length : tie.Need-same-length
 same-length c = search needs
@@ -21,7 +21,7 @@ returns : tie.Need-returns
 returns c = search needs
 
 fill-requires : tie.Need-fill-requires
-fill-requires c κs = cleared (c .before .before .before .before .before .before .before .before .before .before .before .before .before .before .before .args .keys .now) (c .before .before .before .before .before .before .before .before .before .before .before .before .before .before .before .args .ends .now) (c .before .before .before .before .before .before .before .before .before .before .before .before .before .before .before .args .text .now) (c .before .before .before .before .before .before .before .before .before .before .before .before .before .before .before .args .pieces .now) (c .before .before .before .before .before .before .before .before .before .clear-keys .last .0) (c .before .before .before .before .before .clear-ends .last .0) (c .before .before .before .before .before .before .before .before .before .before .before .before .before .before .before .pre) (c .before .before .before .before .before .before .before .before .before .clear-keys .ensures) (c .before .before .before .before .before .clear-ends .ensures) (c .before .before .if1 .left)
+fill-requires c κs = cleared (c .before .before .before .before .before .before .before .before .before .before .before .before .before .before .before .args .keys .now) (c .before .before .before .before .before .before .before .before .before .before .before .before .before .before .before .args .ends .now) (c .before .before .before .before .before .before .before .before .before .before .before .before .before .before .before .args .text .now) (c .before .before .before .before .before .before .before .before .before .before .before .before .before .before .before .args .pieces .now) (c .before .before .before .before .before .before .before .before .before .clear-keys .last .0) (c .before .before .before .before .before .clear-numbers .last .0) (c .before .before .before .before .before .before .before .before .before .before .before .before .before .before .before .pre) (c .before .before .before .before .before .before .before .before .before .clear-keys .ensures) (c .before .before .before .before .before .clear-numbers .ensures) (c .before .before .if1 .left)
 
 same-length-3 : tie.Need-same-length-3
 same-length-3 c = search needs
@@ -37,7 +37,7 @@ index-spec =
     tie.close
     (tie.spec
     clear-keys-requires
-    clear-ends-requires
+    clear-numbers-requires
     same-length
     same-length-2
     returns

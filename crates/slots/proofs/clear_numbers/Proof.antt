@@ -1,9 +1,11 @@
+-- `slots::clear_numbers` meets its contract: the slots before are zero. The measure is how many are left.
+-- Assumes nothing.
 use Rattle.laws.proofs.Fills.{Filled, filled-none, filled-more, filled-all}
 use lib.ListN.{length}
 use native.Mathlib.Omega.{arith}
 use Prim.Native.Nat.{ℕ, _-_}
-use Rattle.lent.proofs.clear_numbers.Statement.{statement}
-use Rattle.lent.proofs.clear_numbers.Tie as tie
+use Rattle.slots.proofs.clear_numbers.Statement.{statement}
+use Rattle.slots.proofs.clear_numbers.Tie as tie
 
 abbrev Inv-loop : tie.InvT-loop
 Inv-loop slots₀ slot₀ slots slot = Filled ℕ 0 slots₀ slot slots
@@ -11,35 +13,27 @@ Inv-loop slots₀ slot₀ slots slot = Filled ℕ 0 slots₀ slot slots
 abbrev μ-loop : tie.MeasureT-loop
 μ-loop slots₀ slot₀ slots slot = length slots₀ - slot
 
--- src/lib.rt:66:5
 loop-holds : tie.Need-loop-holds Inv-loop μ-loop
 loop-holds c = filled-none _ _
 
--- src/lib.rt:67:9
 mul-slots : tie.Need-mul-slots Inv-loop μ-loop
 mul-slots c = omega arith
 
--- src/lib.rt:67:9
 slice-write-slots : tie.Need-slice-write-slots Inv-loop μ-loop
 slice-write-slots c = omega arith
 
--- src/lib.rt:68:9
 add-slot : tie.Need-add-slot Inv-loop μ-loop
 add-slot c = omega arith
 
--- src/lib.rt:66:5
 loop-less : tie.Need-loop-less Inv-loop μ-loop
 loop-less c = omega (arith, c .before .loop .inv .long)
 
--- src/lib.rt:66:5
 loop-again : tie.Need-loop-again Inv-loop μ-loop
 loop-again c = filled-more (omega (arith, c .before .loop .inv .long)) (c .before .loop .inv)
 
--- src/lib.rt:62:1
 same-length : tie.Need-same-length Inv-loop μ-loop
 same-length c = c .before .loop .inv .long
 
--- src/lib.rt:62:1
 returns : tie.Need-returns Inv-loop μ-loop
 returns c = filled-all (c .loop-test .left) (c .before .loop .inv)
 
