@@ -1,4 +1,4 @@
--- The part of a slice that was filled. Assumes nothing.
+-- The part of a slice that was filled, and the cases of the answer. Assumes nothing.
 use mathlib.Core.Path.{_≡_, refl, sym, ap, _∙_, subst}
 use mathlib.Core.Bool.{Bool, true, false}
 use mathlib.Core.List.{List}
@@ -10,7 +10,14 @@ use lib.Seq.{take-all, length-take-le}
 use borrow.Author.Tests.{leb-true, leb-false}
 use Rattle.settings.specs.declared.Settings.{Settings}
 use Rattle.listing.specs.Start.{Lent}
-use Rattle.room.specs.Room.{asked}
+use Rattle.refusal.specs.declared.Refusal.the-variants.{BadFrame}
+use Rattle.frames.specs.declared.sequence.Ended.{Ended}
+use Rattle.frames.specs.declared.sequence.Ended.the-variants.{Whole, Broken}
+use Rattle.stored.specs.Stored.{Tables}
+use Rattle.make.specs.Make.{Results}
+use Rattle.make.specs.declared.Trained.{Trained}
+use Rattle.make.specs.declared.Trained.the-variants.{Refused}
+use Rattle.room.specs.Room.{asked, Whether, Replies}
 
 module _ {A : Type 0} (n r : ℕ) (l : List A) (e : r ≡ min n (length l)) where
   pub part-inside : r ≤ length l
@@ -36,3 +43,12 @@ lent-same P s {a} {a'} {b} {b'} {c} {c'} {d} {d'} {e} {e'} p q r t u x =
     (subst (λ (y : List ℕ). P (asked s a' b' y d e)) r
     (subst (λ (y : List ℕ). P (asked s a' y c d e)) q
     (subst (λ (y : List ℕ). P (asked s y b c d e)) p x))))
+
+-- ---- the answer, by how the input ended and whether a word had no room
+module _ (e : Ended) (t : Tables) (y y' : Results) (r : Trained) where
+  pub reply-whole : e ≡ Whole → (b : Bool) → t .short ≡ b → Whether b t y y' r → Replies e t y y' r
+  reply-whole p b s w =
+      subst (λ (x : Ended). Replies x t y y' r) (sym p) (subst (λ (x : Bool). Whether x t y y' r) (sym s) w)
+
+  pub reply-broken : (line : ℕ) → e ≡ Broken line → r ≡ Refused (BadFrame line) → y' ≡ y → Replies e t y y' r
+  reply-broken line p q s = subst (λ (x : Ended). Replies x t y y' r) (sym p) (q, s)

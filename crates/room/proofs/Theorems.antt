@@ -1,5 +1,5 @@
--- From the lines of an input to what training is lent. Assumes nothing.
-use mathlib.Core.Path.{_≡_, refl, sym, ap, ap₂, _∙_}
+-- From the lines of an input to what training is lent, and to the program's answer. Assumes nothing.
+use mathlib.Core.Path.{_≡_, refl, sym, ap, ap₂, _∙_, subst}
 use mathlib.Core.Bool.{Bool, true, false}
 use mathlib.Core.List.{List, [], _∷_, _++_}
 use Prim.Native.Nat.{ℕ, _*_, _≤_}
@@ -20,7 +20,16 @@ use Rattle.lines.specs.Lines.{lineBytes, lineFrame}
 use Rattle.lines.specs.Said.{wordsIn, frequenciesIn, specialsIn, Room, Words}
 use Rattle.lines.proofs.Theorems.{framesOf, storedBy}
 use Rattle.lines.proofs.Said.{after, words-kept, specials-kept, text-lent, spans-lent, frequencies-lent}
-use Rattle.room.specs.Room.{asked, lentBy}
+use Rattle.refusal.specs.declared.Refusal.the-variants.{BadFrame}
+use Rattle.frames.specs.Sequence.{begunOf, endOf, readAll, inputOf}
+use Rattle.frames.specs.declared.sequence.Ended.{Ended}
+use Rattle.frames.specs.declared.sequence.Ended.the-variants.{Broken}
+use Rattle.frames.proofs.Theorems.{in-order-whole}
+use Rattle.make.specs.Make.{Results}
+use Rattle.make.specs.declared.Trained.{Trained}
+use Rattle.make.specs.declared.Trained.the-variants.{Refused}
+use Rattle.training.specs.Train.{Answers}
+use Rattle.room.specs.Room.{asked, lentBy, rooms, Whether, Replies}
 
 -- ---- the settings are those of the 01
 abbrev settingOf : Settings → Frame → Settings
@@ -109,3 +118,27 @@ module _ (lines : List (List ℕ)) (bytes specials text words frequencies : List
         frequencies-lent (wordsIn lines) (frequenciesIn lines) text words frequencies (t .words) (t .frequencies) w,
       )
       (all-asked (o .settings) (joined (specialsIn lines)) (spansFrom 0 (specialsIn lines)) (joined (wordsIn lines)) (wordsIn lines) (frequenciesIn lines) (w .each))
+
+  -- The answer to an input that is in order and has room is training's, to what its lines say.
+  pub answered : (o : InOrder (framesOf lines)) → length (o .words) ≤ 4294967295 → (y y' : Results) (r : Trained)
+      → Replies (endOf (readAll begunOf (framesOf lines))) (after lines bytes specials text words frequencies) y y' r
+      → after lines bytes specials text words frequencies .short ≡ false → Room (specialsIn lines) bytes specials
+      → Answers (record {
+        settings = o .settings;
+        texts = joined (specialsIn lines);
+        specials = spansFrom 0 (specialsIn lines);
+        text = joined (wordsIn lines);
+        words = spansFrom 0 (wordsIn lines);
+        frequencies = frequenciesIn lines;
+      }) rooms y y' r
+  unfolding inputOf
+  answered o few y y' r replies whole room =
+      let t = after lines bytes specials text words frequencies in
+      subst (λ (x : Lent). Answers x rooms y y' r) (said-lent o whole room)
+      (subst (λ (b : Bool). Whether b t y y' r) whole
+      (subst (λ (e : Ended). Replies e t y y' r) (in-order-whole (framesOf lines) o few) replies))
+
+  -- A broken line is told before all else.
+  pub broken-told : (line : ℕ) → endOf (readAll begunOf (framesOf lines)) ≡ Broken line → (y y' : Results) (r : Trained)
+      → Replies (endOf (readAll begunOf (framesOf lines))) (after lines bytes specials text words frequencies) y y' r → (r ≡ Refused (BadFrame line)) × (y' ≡ y)
+  broken-told line e y y' r replies = subst (λ (x : Ended). Replies x (after lines bytes specials text words frequencies) y y' r) e replies

@@ -1,5 +1,7 @@
 -- The program's room: document 01, "room for 256 words, 8,192 word bytes, 1,024 pieces, 4,096 nodes, 8,192 edges, 8,704 offsets".
 -- Definitions only.
+use mathlib.Core.Path.{_≡_}
+use mathlib.Core.Bool.{Bool, true, false}
 use mathlib.Core.List.{List}
 use Prim.Native.Nat.{ℕ, _*_}
 use lib.ListN.{take, replicate}
@@ -7,7 +9,13 @@ use lib.Ieee.{binary64, ofBits}
 use Rattle.settings.specs.declared.Settings.{Settings}
 use Rattle.listing.specs.Start.{Lent, countOf}
 use Rattle.stored.specs.Stored.{Tables}
-use Rattle.training.specs.Train.{Work}
+use Rattle.refusal.specs.declared.Refusal.the-variants.{BadFrame, NoRoom}
+use Rattle.frames.specs.declared.sequence.Ended.{Ended}
+use Rattle.frames.specs.declared.sequence.Ended.the-variants.{Whole, Broken}
+use Rattle.make.specs.Make.{Results}
+use Rattle.make.specs.declared.Trained.{Trained}
+use Rattle.make.specs.declared.Trained.the-variants.{Refused}
+use Rattle.training.specs.Train.{Work, Answers}
 
 -- the slices of training, all zeros: two numbers for the span of a word and of a piece, four for a word's place in the cache, three
 -- for a position in the text, and two places of the trie for a node
@@ -51,3 +59,13 @@ lentBy t =
     (take (t .specials .run .bytes) (t .specials .bytes)) (take (2 * t .specials .run .count) (t .specials .spans))
     (take (t .words .run .bytes) (t .words .bytes)) (take (2 * t .words .run .count) (t .words .spans))
     (take (t .words .run .count) (t .frequencies))
+
+-- ---- what is answered, of an input that is whole: NoRoom 5 where a word had no room, else training's answer
+abbrev pub Whether : Bool → Tables → Results → Results → Trained → Type 0
+Whether true t y y' r = (r ≡ Refused (NoRoom 5)) × (y' ≡ y)
+Whether false t y y' r = Answers (lentBy t) rooms y y' r
+
+-- and BadFrame at a broken line, before all else. "A refusal changes no result slice"
+abbrev pub Replies : Ended → Tables → Results → Results → Trained → Type 0
+Replies (Broken line) t y y' r = (r ≡ Refused (BadFrame line)) × (y' ≡ y)
+Replies Whole t y y' r = Whether (t .short) t y y' r

@@ -1,9 +1,12 @@
-// Training with the program's room.
+// The program's answer to an input: a broken line, words without room, or training's answer, with the program's room.
 //
 // Document 01: "The program `train` has room for 256 words, 8,192 word bytes, 1,024 pieces, 4,096 nodes, 8,192 edges, 8,704 offsets,
 // 65,536 result bytes; no other room runs short." The work slices stand here, and nothing of them is left behind. A node has two
 // places of the trie, and a word a span of the cache.
+use frames::Ended;
+use lines::Input;
 use make::Trained;
+use refusal::Refusal;
 use settings::Settings;
 use slots::lesser;
 use stored::Stored;
@@ -11,7 +14,8 @@ ghost use mathlib.Core.Path.{_≡_};
 ghost use Prim.Native.Nat.{_*_, min};
 ghost use Rattle.training.specs.Train.{Answers};
 ghost use Rattle.stored.specs.Stored.{tables};
-ghost use Rattle.room.specs.Room.{rooms, asked, lentBy};
+ghost use Rattle.frames.specs.Sequence.{endOf};
+ghost use Rattle.room.specs.Room.{rooms, asked, lentBy, Replies};
 
 // Trains on words that are lent, with specials, and writes the tokens to slices that are lent.
 fn train(
@@ -87,7 +91,7 @@ fn pairs(texts: usize, numbers: usize) -> usize
 }
 
 // Trains on what was stored in slices: training is lent the part of each that was filled.
-pub fn learn(
+fn learn(
     stored: Stored,
     texts: &[u8],
     specials: &[u32],
@@ -117,4 +121,42 @@ pub fn learn(
         tokens,
         token_scores,
     )
+}
+
+// What is answered to an input that was read to its end: "1 .. (program only)", then "5 the program's word room, checked after 1 and
+// before 2", then training's own.
+pub fn answer(
+    input: Input,
+    texts: &[u8],
+    specials: &[u32],
+    text: &[u8],
+    words: &[u32],
+    frequencies: &[u64],
+    bytes: &mut [u8],
+    tokens: &mut [u32],
+    token_scores: &mut [f64],
+) -> Trained
+    ensures { λ r. ⌜ Replies (endOf (input .reading)) (tables (input .stored) (now (texts .entry)) (now (specials .entry)) (now (text .entry)) (now (words .entry)) (now (frequencies .entry))) (record { bytes = now (bytes .entry); tokens = now (tokens .entry); scores = now («token_scores» .entry) }) (record { bytes = now (bytes .exit); tokens = now (tokens .exit); scores = now («token_scores» .exit) }) r ⌝ }
+{
+    let stored = input.stored;
+    let reading = input.reading;
+    match frames::finish(reading) {
+        Ended::Broken(line) => Trained::Refused(Refusal::BadFrame(line)),
+        Ended::Whole => {
+            if stored.short {
+                return Trained::Refused(Refusal::NoRoom(refusal::NO_ROOM_WORDS));
+            }
+            learn(
+                stored,
+                texts,
+                specials,
+                text,
+                words,
+                frequencies,
+                bytes,
+                tokens,
+                token_scores,
+            )
+        }
+    }
 }

@@ -1,12 +1,12 @@
-// The call of training, and what it answered.
+// The answer to the input, and what is told of it.
 //
 // Document 01 gives the program 65,536 result bytes. A token slot is there for each piece and each special.
 use crate::show::tell;
 use crate::show::tell_refusal;
+use lines::Input;
 use make::Trained;
-use stored::Stored;
 
-// Tells what training answered, with so many specials.
+// Tells what was answered, with so many specials.
 fn told(
     trained: Trained,
     specials: usize,
@@ -29,9 +29,9 @@ fn told(
     }
 }
 
-// Trains on what was stored, and tells.
+// Answers an input that was read to its end, and tells.
 pub fn learn(
-    stored: Stored,
+    input: Input,
     texts: &[u8],
     specials: &[u32],
     text: &[u8],
@@ -41,8 +41,8 @@ pub fn learn(
     let mut bytes = [0u8; 65536];
     let mut tokens = [0u32; 2560];
     let mut scores = [0.0; 1280];
-    let trained = room::learn(
-        stored,
+    let trained = room::answer(
+        input,
         texts,
         specials,
         text,
@@ -52,5 +52,11 @@ pub fn learn(
         &mut tokens,
         &mut scores,
     );
-    told(trained, stored.specials.count, &bytes, &tokens, &scores);
+    told(
+        trained,
+        input.stored.specials.count,
+        &bytes,
+        &tokens,
+        &scores,
+    );
 }

@@ -5,7 +5,7 @@
 // training's own. It ends with status 0, refused or not, and writes nothing to standard error.
 //
 // No contract can say what is read, so the proofs begin behind that: from the bytes of a chunk to the frames of its lines and to
-// the slices that training is lent (crate `lines`), and from there in the crate `training`.
+// the slices that training is lent (crate `lines`), and from there to the answer (crate `room`).
 //
 // stdin and stdout beside src/ are document 01's sample. The file cases has some hundred inputs more and what is printed for each:
 // tools/vectors/train.py makes it, and tools/train.py runs it.
@@ -13,34 +13,8 @@ mod learn;
 mod read;
 mod show;
 
-use frames::Ended;
 use learn::learn;
 use read::read_input;
-use refusal::Refusal;
-use show::tell_refusal;
-use stored::Stored;
-
-// Trains on what was stored, if the input is in order and there was room for it.
-fn answer(
-    ended: Ended,
-    stored: Stored,
-    texts: &[u8; 65535],
-    specials: &[u32; 514],
-    text: &[u8; 8192],
-    words: &[u32; 512],
-    frequencies: &[u64; 256],
-) {
-    match ended {
-        Ended::Broken(line) => tell_refusal(Refusal::BadFrame(line)),
-        Ended::Whole => {
-            if stored.short {
-                tell_refusal(Refusal::NoRoom(refusal::NO_ROOM_WORDS));
-            } else {
-                learn(stored, texts, specials, text, words, frequencies);
-            }
-        }
-    }
-}
 
 fn main() {
     let mut texts = [0u8; 65535];
@@ -55,15 +29,5 @@ fn main() {
         &mut words,
         &mut frequencies,
     );
-    let ended = frames::finish(input.reading);
-    let stored = input.stored;
-    answer(
-        ended,
-        stored,
-        &texts,
-        &specials,
-        &text,
-        &words,
-        &frequencies,
-    );
+    learn(input, &texts, &specials, &text, &words, &frequencies);
 }
