@@ -57,10 +57,10 @@ streamOf input buffer texts specials text words frequencies = record {
   line = take (input .used) buffer;
 }
 
+-- before the first byte, with what the slices hold then
 abbrev pub begunWith : List ℕ → List ℕ → List ℕ → List ℕ → List ℕ → Stream
 begunWith texts specials text words frequencies = record { reading = begunOf; tables = tables nothing texts specials text words frequencies; line = [] }
 
--- before the first byte
 abbrev pub begunAt : Input
 begunAt = record { reading = begunOf; stored = nothing; used = 0 }
 
