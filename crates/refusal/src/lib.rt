@@ -3,6 +3,9 @@
 // This crate is document 01's table "Numbers that say no", a case of `Refusal` for each row, and its paragraph "Numbers that
 // bound the work", a constant for each bound. It decides nothing: the other crates answer with it.
 //
+// The order of refusals is data: specs/Rows.antt has a row of the table and what a list of rows gives, "the first that applies
+// [..], with the lowest place". Each call has its list, in document 01's order; that no second refusal fits is proved here, once.
+//
 // A case holds its place and nothing else. The rows whose place is always 0 hold nothing. A place is a u64: the index that
 // a caller lends or asks for is a usize of 64 bits, which a place must be able to repeat (`view` of an absent index is
 // BadLattice at that index), so no narrower type would hold every place.
