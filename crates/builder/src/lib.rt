@@ -20,7 +20,7 @@ use spans::count;
 use utf8::classes;
 
 // How many edges and how many offsets.
-#[derive(Drop)]
+#[derive(Clone, Copy)]
 pub struct Sizes {
     pub edges: usize,
     pub ends: usize,

@@ -20,7 +20,7 @@ use refusal::Refusal;
 use retain::{Remapped, check_remap, retain_core};
 
 // How many edges are left, or why nothing was done.
-#[derive(Drop)]
+#[derive(Clone, Copy)]
 pub enum Retained {
     Edges(usize),
     Refused(Refusal),

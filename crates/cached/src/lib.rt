@@ -11,7 +11,7 @@ ghost use Rattle.cached.specs.Cached.{span_at, edges_before, offsets_before, Pre
 use formed::{Span, formed, read};
 
 // A cache's words are all as they should be, or the first that is not.
-#[derive(Drop)]
+#[derive(Clone, Copy)]
 pub enum Cache {
     Formed,
     BadAt(usize),

@@ -21,7 +21,7 @@ use repeats::{Repeated, repeat};
 use utf8::{Text, measure};
 
 // All is in order, or why not.
-#[derive(Drop)]
+#[derive(Clone, Copy)]
 pub enum Checked {
     Fine,
     Refused(Refusal),

@@ -17,21 +17,21 @@ use slots::{clear_floats, clear_numbers};
 use viterbi::{Best, excluding_core, viterbi_core};
 
 // The best cut's score, and how many pieces its path has; or why there is none.
-#[derive(Drop)]
+#[derive(Clone, Copy)]
 pub enum Cut {
     Score { score: f64, count: usize },
     Refused(Refusal),
 }
 
 // The best score without a piece, minus infinity where nothing else spells the word; or why nothing was done.
-#[derive(Drop)]
+#[derive(Clone, Copy)]
 pub enum Excluded {
     Score(f64),
     Refused(Refusal),
 }
 
 // All is in order, or why not.
-#[derive(Drop)]
+#[derive(Clone, Copy)]
 enum Checked {
     Fine,
     Refused(Refusal),
@@ -146,7 +146,7 @@ pub fn viterbi(
 }
 
 // A short word's best cut, with its path by value: "32 ids with their count", and the unused ids are 0.
-#[derive(Drop)]
+#[derive(Clone, Copy)]
 pub struct ShortCut {
     pub cut: Cut,
     pub ids: [u32; 32],
@@ -210,7 +210,7 @@ pub fn viterbi_excluding(
 }
 
 // Whether a word has a cut, or why nothing was asked.
-#[derive(Drop)]
+#[derive(Clone, Copy)]
 pub enum Connection {
     Cuts,
     NoCut,
@@ -256,7 +256,7 @@ pub fn is_connected(
 }
 
 // The sum over all cuts of a word, or why nothing was done.
-#[derive(Drop)]
+#[derive(Clone, Copy)]
 pub enum Expected {
     Sum(f64),
     Refused(Refusal),

@@ -61,7 +61,7 @@ pub extern "C" fn causeylark_viterbi(
 
 // A short word's best cut by value: what C is answered and told, the score, and "32 ids"; the unused ids are 0.
 #[repr(C)]
-#[derive(Drop)]
+#[derive(Clone, Copy)]
 pub struct ByValue {
     pub score: f64,
     pub told: u64,

@@ -10,7 +10,7 @@ ghost use Rattle.formed.specs.Formed.{Inside, EdgeFrom, EndFormed, Formed};
 
 // Where one word's lattice stands in the slices of a cache: its edges from `from` up to, not with, `to`; its offsets from
 // `at` on; and its number of characters.
-#[derive(Drop)]
+#[derive(Clone, Copy)]
 pub struct Span {
     pub from: usize,
     pub to: usize,

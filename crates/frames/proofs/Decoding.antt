@@ -9,9 +9,9 @@ use native.Mathlib.Omega.{arith}
 use lib.ListN.{length, drop, get_or, set, length-set, length-append}
 use lib.Seq.{drop-cons, set_at}
 use borrow.Author.Tests.{le-leb, lt-leb, eq-eqb, ne_eqb}
-use Rattle.hex.specs.Digits.{value_of}
-use Rattle.hex.specs.declared.Nibble.TheVariants.{Value as Digit}
-use Rattle.hex.proofs.Valued.{digit_below}
+use Rattle.hexadecimal.specs.Digits.{value_of}
+use Rattle.hexadecimal.specs.declared.Nibble.TheVariants.{Value as Digit}
+use Rattle.hexadecimal.proofs.Valued.{digit_below}
 use Rattle.frames.specs.Bytes.{is_digit, digits_only, byte_at, bytes_upto, bytes_of, decoded_of, decoded_in}
 use Rattle.frames.specs.declared.line.Decoded.TheVariants.{Bytes, Bad}
 

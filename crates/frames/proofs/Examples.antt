@@ -5,7 +5,7 @@ use mathlib.Core.Path.{◌≡◌, refl}
 use mathlib.Core.Bool.{false}
 use mathlib.Core.List.{List, [], ◌∷◌}
 use lib.Ieee.{binary64, of_bits, to_bits}
-use Rattle.hex.specs.Digits.{value_of, digits_of}
+use Rattle.hexadecimal.specs.Digits.{value_of, digits_of}
 use Rattle.settings.specs.declared.Settings.{Settings}
 use Rattle.settings.specs.declared.SeedSize.TheVariants.{Unset}
 use Rattle.frames.specs.Bytes.{digits_only, bytes_upto, bytes_of, decoded_of}

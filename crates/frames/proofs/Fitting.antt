@@ -7,10 +7,10 @@ use native.Mathlib.Omega.{arith}
 use lib.Dec.{eqb}
 use lib.ListN.{length, get_or}
 use Rattle.laws.proofs.Choices.{cond_cases}
-use Rattle.hex.specs.Digits.{value_of}
-use Rattle.hex.specs.declared.Nibble.{Nibble}
-use Rattle.hex.specs.declared.Nibble.TheVariants.{Value as Digit, Bad as NoDigit}
-use Rattle.hex.proofs.Valued.{digit_below}
+use Rattle.hexadecimal.specs.Digits.{value_of}
+use Rattle.hexadecimal.specs.declared.Nibble.{Nibble}
+use Rattle.hexadecimal.specs.declared.Nibble.TheVariants.{Value as Digit, Bad as NoDigit}
+use Rattle.hexadecimal.proofs.Valued.{digit_below}
 use Rattle.frames.specs.Bytes.{worth, nibble_of, byte_at, bytes_upto, bytes_of}
 use Rattle.frames.specs.Frames.{byte, number_at, seed_fits, settings_of, settings_frame, special_frame, word_frame, count_frame, frame_of}
 use Rattle.frames.specs.declared.input.Frame.TheVariants.{Settings as First, Special, Word, Count, Bad}

@@ -10,10 +10,10 @@ use lib.Ieee.{Float, binary64, to_bits}
 use lib.ListN.{length, get_or, set, length-append}
 use lib.Seq.{sets, length-sets}
 use borrow.Author.Tests.{le-leb, lt-leb}
-use Rattle.hex.specs.Digits.{digits_of}
-use Rattle.hex.specs.Frames.{write_at}
-use Rattle.hex.specs.declared.Written.TheVariants.{Upto, NoRoom}
-use Rattle.hex.proofs.Writing.{length_digits}
+use Rattle.hexadecimal.specs.Digits.{digits_of}
+use Rattle.hexadecimal.specs.Frames.{write_at}
+use Rattle.hexadecimal.specs.declared.Written.TheVariants.{Upto, NoRoom}
+use Rattle.hexadecimal.proofs.Writing.{length_digits}
 use Rattle.frames.specs.Answers.{Put, spelt_upto, spelt_of, answer_line, token_line, count_line, line_written, line_in, token_written, token_in}
 use Rattle.frames.specs.declared.output.Answer.{Answer}
 

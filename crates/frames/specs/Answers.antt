@@ -3,9 +3,9 @@ use Rattle.std.specs.Prelude.{ℕ, zero, suc, ◌+◌, min, ◌≡◌, Bool, tru
 use Rattle.std.specs.Float.{binary64}
 use Rattle.std.specs.Float.Ieee.{to_bits}
 use Rattle.std.proofs.lemmas.List.Edits.{sets}
-use Rattle.hex.specs.Digits.{digits_of}
-use Rattle.hex.specs.declared.Written.{Written}
-use Rattle.hex.specs.declared.Written.TheVariants.{Upto, NoRoom}
+use Rattle.hexadecimal.specs.Digits.{digits_of}
+use Rattle.hexadecimal.specs.declared.Written.{Written}
+use Rattle.hexadecimal.specs.declared.Written.TheVariants.{Upto, NoRoom}
 use Rattle.refusal.specs.Numbers.{number_of, place_of}
 use Rattle.refusal.specs.declared.Refusal.{Refusal}
 use Rattle.frames.specs.declared.output.Answer.{Answer}

@@ -1,8 +1,8 @@
 -- A line's digits and the bytes that they are: document 01, "Lower-case hexadecimal". Definitions only.
 use Rattle.std.specs.Prelude.{ℕ, zero, suc, ◌+◌, ◌*◌, ◌/◌, ◌%◌, Bool, true, false, cond, List, [], ◌∷◌, ◌++◌, leb, eqb, length, drop, get_or}
-use Rattle.hex.specs.Digits.{value_of}
-use Rattle.hex.specs.declared.Nibble.{Nibble}
-use Rattle.hex.specs.declared.Nibble.TheVariants.{Value as Digit, Bad as NoDigit}
+use Rattle.hexadecimal.specs.Digits.{value_of}
+use Rattle.hexadecimal.specs.declared.Nibble.{Nibble}
+use Rattle.hexadecimal.specs.declared.Nibble.TheVariants.{Value as Digit, Bad as NoDigit}
 use Rattle.frames.specs.declared.line.Decoded.{Decoded}
 use Rattle.frames.specs.declared.line.Decoded.TheVariants.{Bytes, Bad}
 

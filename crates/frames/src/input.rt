@@ -9,7 +9,7 @@ ghost use Rattle.frames.specs.Frames.{number_at, seed_of, seed_fits, settings_of
 use settings::{SeedSize, Settings};
 
 // What a line's bytes are. The bytes of a special and of a word are so many of them, from the index `from` on.
-#[derive(Drop)]
+#[derive(Clone, Copy)]
 pub enum Frame {
     Settings {
         settings: Settings,

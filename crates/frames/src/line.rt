@@ -4,10 +4,10 @@
 ghost use Rattle.std.specs.Prelude.{◌≡◌, ◌++◌, ◌/◌, ◌≤◌, ◌<◌, length, drop};
 ghost use Rattle.frames.specs.Bytes.{is_digit, nibble_of, digits_only, bytes_of, decoded_of, decoded_in};
 
-use hex::Nibble;
+use hexadecimal::Nibble;
 
 // The bytes of a line stand in the first so many lent ones; or the line is not digits in pairs, or longer than what is lent.
-#[derive(Drop)]
+#[derive(Clone, Copy)]
 pub enum Decoded {
     Bytes(usize),
     Bad,
@@ -17,7 +17,7 @@ pub enum Decoded {
 fn is_digit(b: u8) -> bool
     ensures { result ≡ is_digit b }
 {
-    match hex::value(b) {
+    match hexadecimal::value(b) {
         Nibble::Value(_) => true,
         Nibble::Bad => false,
     }
@@ -28,7 +28,7 @@ fn nibble(b: u8) -> u8
     ensures value { result ≡ nibble_of b }
     ensures upper_bound { result < 16 }
 {
-    match hex::value(b) {
+    match hexadecimal::value(b) {
         Nibble::Value(v) => v,
         Nibble::Bad => 0,
     }

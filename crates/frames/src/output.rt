@@ -3,14 +3,14 @@
 //
 // A frame goes into a lent slice at a position, whole or not at all, with the 0a that ends its line.
 ghost use Rattle.std.specs.Prelude.{◌≡◌, ◌+◌, ◌*◌, ◌≤◌, ◌<◌, length};
-ghost use Rattle.hex.specs.Digits.{digits_of};
+ghost use Rattle.hexadecimal.specs.Digits.{digits_of};
 ghost use Rattle.frames.specs.Answers.{Put, clamped, stop_of, refused_of, trained_of, spelt_of, answer_line, token_line, count_line, line_written, line_in, token_written, token_in};
 
-use hex::Written;
+use hexadecimal::Written;
 use refusal::Refusal;
 
 // The fields of an 11.
-#[derive(Drop)]
+#[derive(Clone, Copy)]
 pub struct Answer {
     pub refusal: u8,
     pub place: u32,
@@ -81,7 +81,7 @@ fn put(out: &mut [u8], at: usize, digits: usize, x: u64) -> usize
     ensures put { Put out.old at (digits_of digits x) out.new result }
     ensures value { result ≡ at + digits }
 {
-    hex::write(out, at, digits, x);
+    hexadecimal::write(out, at, digits, x);
     at + digits
 }
 

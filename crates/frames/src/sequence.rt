@@ -16,7 +16,7 @@ pub const LINES: u64 = 4_294_967_295;
 pub const WORDS: u64 = 4_294_967_296;
 
 // What may come next: the 01; a 02, and so many in all; a 03 or the 04; or nothing more. Or a line, from 1, broke the rules.
-#[derive(Drop)]
+#[derive(Clone, Copy)]
 pub enum Awaited {
     First,
     Specials(u16),
@@ -26,7 +26,7 @@ pub enum Awaited {
 }
 
 // How far the input is read: what may come next, and how many lines and words were read.
-#[derive(Drop)]
+#[derive(Clone, Copy)]
 pub struct Reading {
     pub awaited: Awaited,
     pub lines: u64,
@@ -34,7 +34,7 @@ pub struct Reading {
 }
 
 // What the whole input is: in order, or broken at a line.
-#[derive(Drop)]
+#[derive(Clone, Copy)]
 pub enum Ended {
     Whole,
     Broken(u64),

@@ -18,7 +18,7 @@ use retain::clear_from;
 use trie::Indexed;
 
 // How many edges there are, or why nothing was done.
-#[derive(Drop)]
+#[derive(Clone, Copy)]
 pub enum Built {
     Edges(usize),
     Refused(Refusal),

@@ -9,7 +9,7 @@ use refusal::Refusal;
 use repeats::{Repeated, repeat};
 
 // All is in order, or why not.
-#[derive(Drop)]
+#[derive(Clone, Copy)]
 pub enum Checked {
     Fine,
     Refused(Refusal),

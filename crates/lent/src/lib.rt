@@ -10,7 +10,7 @@ ghost use Rattle.lent.specs.Lent.{Answers};
 use formed::{Span, formed};
 
 // All scores are as they should be, or the first that is not.
-#[derive(Drop)]
+#[derive(Clone, Copy)]
 pub enum Scored {
     Fine,
     BadAt(usize),

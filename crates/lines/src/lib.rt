@@ -10,7 +10,7 @@ use frames::{Decoded, Frame, Reading};
 use stored::{Stored, nothing, store};
 
 // How far the input is read: its frames, what they say, and how much of a line has come.
-#[derive(Drop)]
+#[derive(Clone, Copy)]
 pub struct Input {
     pub reading: Reading,
     pub stored: Stored,

@@ -20,7 +20,7 @@ use settings::Settings;
 use slots::lesser;
 
 // How many words are UTF-8, how many pieces the list has after its cut, and how many of them are required; or why there is none.
-#[derive(Drop)]
+#[derive(Clone, Copy)]
 pub enum Started {
     Seeded {
         words: usize,
@@ -31,7 +31,7 @@ pub enum Started {
 }
 
 // All is in order, or why not.
-#[derive(Drop)]
+#[derive(Clone, Copy)]
 pub enum Checked {
     Fine,
     Refused(Refusal),

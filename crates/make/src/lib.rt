@@ -9,7 +9,7 @@ use settings::Settings;
 use shape::Shaped;
 
 // How many tokens there are, how many pieces are required, and whether training stopped over target; or why there are none.
-#[derive(Drop)]
+#[derive(Clone, Copy)]
 pub enum Trained {
     Tokens {
         tokens: usize,

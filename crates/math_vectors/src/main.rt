@@ -5,7 +5,7 @@
 // many more. Every line of questions has 19 bytes and every answer 17, so that a block needs no search for line ends.
 ghost use Rattle.std.specs.Prelude.{◌+◌, ◌*◌, ◌≤◌, length};
 
-use hex::Number;
+use hexadecimal::Number;
 use libc::{STDIN_FILENO, STDOUT_FILENO};
 
 // How many lines are read at a time.
@@ -26,7 +26,7 @@ fn result(function: u8, x: f64) -> f64 {
 fn answer(asked: &[u8], from: usize) -> u64
     requires { from + 19 ≤ length asked.now }
 {
-    match hex::read_u64(asked, from + 2) {
+    match hexadecimal::read_u64(asked, from + 2) {
         Number::Value(b) => math::bits(result(asked[from], math::from_bits(b))),
         Number::Bad => 0,
     }
@@ -36,7 +36,7 @@ fn answer(asked: &[u8], from: usize) -> u64
 fn tell(told: &mut [u8], to: usize, bits: u64)
     requires { to + 17 ≤ length told.old }
 {
-    hex::write_u64(told, to, bits);
+    hexadecimal::write_u64(told, to, bits);
     told[to + 16] = 10;
 }
 

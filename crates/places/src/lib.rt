@@ -22,14 +22,14 @@ ghost use Rattle.places.specs.Map.{found_in, inserted_in, put_in};
 ghost use Rattle.places.specs.Entries.{Finds, Inserts};
 
 // The child of a node by a character, if there is one.
-#[derive(Drop)]
+#[derive(Clone, Copy)]
 pub enum Found {
     Node(u32),
     Nothing,
 }
 
 // The child of a node by a character: it was there, or was made; or there was no room to make it.
-#[derive(Drop)]
+#[derive(Clone, Copy)]
 pub enum Inserted {
     Old(u32),
     New(u32),

@@ -17,7 +17,7 @@ use places::Inserted;
 
 // What a family's keys are: the node steps and the character steps; or the characters go through a row for each node; or the
 // keys are those of words, whose characters are drawn from a row.
-#[derive(Drop)]
+#[derive(Clone, Copy)]
 enum Kind {
     Steps,
     Rows,
@@ -25,7 +25,7 @@ enum Kind {
 }
 
 // A family of keys. A node and a character to begin with, how far each steps, and how many characters a row has.
-#[derive(Drop)]
+#[derive(Clone, Copy)]
 struct Family {
     kind: Kind,
     node: u64,
@@ -36,7 +36,7 @@ struct Family {
 }
 
 // The next key of a family, the character's place in its row, and what the next random number is made of.
-#[derive(Drop)]
+#[derive(Clone, Copy)]
 struct Next {
     node: u64,
     character: u64,
@@ -45,7 +45,7 @@ struct Next {
 }
 
 // How many keys there are, how many places their walks pass in all, the most that one passes, and the node of the last key.
-#[derive(Drop)]
+#[derive(Clone, Copy)]
 struct Tally {
     count: u64,
     total: u64,

@@ -23,7 +23,7 @@ ghost use Rattle.repeats.specs.Chains.{mixed, hash_of, bucket_of, Chained, Turni
 use spans::{bytes, count, from};
 
 // The lowest index whose bytes stand before it too, or none.
-#[derive(Drop)]
+#[derive(Clone, Copy)]
 pub enum Repeated {
     Nothing,
     At(usize),

@@ -26,7 +26,7 @@ use refusal::Refusal;
 const GONE: u32 = 0xffff_ffff;
 
 // What a remap is found to be.
-#[derive(Drop)]
+#[derive(Clone, Copy)]
 pub enum Remapped {
     Fits,
     Refused(Refusal),

@@ -13,7 +13,7 @@ use seeding::{find_all, gather_in_order, kept, rank_both};
 use slots::lesser;
 
 // The list, or more pieces than slots.
-#[derive(Drop)]
+#[derive(Clone, Copy)]
 pub enum Answer {
     Listed { required: usize, many: usize },
     NoRoom,

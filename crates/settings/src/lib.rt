@@ -11,13 +11,13 @@ ghost use Rattle.settings.specs.Check.{SeedWithin, SpecialsWithin, Answers};
 use refusal::Refusal;
 
 // "`seed_size`, if set": 001's `Option<usize>`.
-#[derive(Drop)]
+#[derive(Clone, Copy)]
 pub enum SeedSize {
     Unset,
     Set(usize),
 }
 
-#[derive(Drop)]
+#[derive(Clone, Copy)]
 pub struct Settings {
     pub vocab_size: usize,
     pub seed_size: SeedSize,
@@ -28,7 +28,7 @@ pub struct Settings {
 }
 
 // All settings are within their bounds, or why not.
-#[derive(Drop)]
+#[derive(Clone, Copy)]
 pub enum Checked {
     Fine,
     Refused(Refusal),

@@ -9,7 +9,7 @@ use refusal::Refusal;
 use settings::Settings;
 
 // How many pieces are left after all rounds; or there was no room for the trie or the lattices.
-#[derive(Drop)]
+#[derive(Clone, Copy)]
 pub enum Shaped {
     Pieces(usize),
     Refused(Refusal),

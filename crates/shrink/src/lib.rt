@@ -12,7 +12,7 @@ use retain::retain_core;
 use uses::uses;
 
 // How many pieces survive, and how many edges.
-#[derive(Drop)]
+#[derive(Clone, Copy)]
 pub struct Shrunk {
     pub pieces: usize,
     pub edges: usize,

@@ -11,7 +11,7 @@ ghost use Rattle.spans.specs.Check.{Good, Answers};
 use utf8::{Text, measure};
 
 // All words or pieces are as they should be, or the first that is not.
-#[derive(Drop)]
+#[derive(Clone, Copy)]
 pub enum Checked {
     Fine,
     BadAt(usize),

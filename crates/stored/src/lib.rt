@@ -11,14 +11,14 @@ use frames::Frame;
 use settings::Settings;
 
 // How many texts a slice of spans has, and how many bytes they have together.
-#[derive(Drop)]
+#[derive(Clone, Copy)]
 pub struct Run {
     pub bytes: usize,
     pub count: usize,
 }
 
 // What is stored; `short` where a word had no room.
-#[derive(Drop)]
+#[derive(Clone, Copy)]
 pub struct Stored {
     pub settings: Settings,
     pub specials: Run,

@@ -21,7 +21,7 @@ ghost use Rattle.tokens.specs.Steps.{Counting, Fits, Putting, PuttingAll};
 use copied::put;
 
 // The tokens are written, so many; or there is no room, and nothing is.
-#[derive(Drop)]
+#[derive(Clone, Copy)]
 pub enum Written {
     Tokens(usize),
     NoRoom,

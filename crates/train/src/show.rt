@@ -2,7 +2,7 @@
 ghost use Rattle.std.specs.Prelude.{◌≤◌};
 
 use frames::Answer;
-use hex::Written;
+use hexadecimal::Written;
 use libc::STDOUT_FILENO;
 use refusal::Refusal;
 use slots::lesser;

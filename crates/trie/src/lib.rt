@@ -25,7 +25,7 @@ use slots::{clear_keys, clear_numbers};
 use utf8::{Decoded, decode_by};
 
 // The node of a spelling, and how many nodes there are besides the root; or there was no room.
-#[derive(Drop)]
+#[derive(Clone, Copy)]
 enum Spelt {
     Node { node: u32, count: usize },
     NoRoom,
@@ -33,7 +33,7 @@ enum Spelt {
 
 // How many nodes there are besides the root after a piece whose spelling is new; or the same, and the earlier piece that has
 // the spelling; or there was no room.
-#[derive(Drop)]
+#[derive(Clone, Copy)]
 pub enum Added {
     New(usize),
     Again { earlier: u32, count: usize },
@@ -41,7 +41,7 @@ pub enum Added {
 }
 
 // How many nodes there are besides the root after all pieces; or there was no room.
-#[derive(Drop)]
+#[derive(Clone, Copy)]
 pub enum Indexed {
     Nodes(usize),
     NoRoom,

@@ -18,14 +18,14 @@ pub use table::classes;
 use table::{class_in, class_of};
 
 // What stands at a position: a character, its code point and how many bytes it takes; or no character.
-#[derive(Drop)]
+#[derive(Clone, Copy)]
 pub enum Decoded {
     Char { code: u32, width: usize },
     Bad,
 }
 
 // What a whole text is: UTF-8 of so many characters; or not, and the offset of the first byte that begins no character.
-#[derive(Drop)]
+#[derive(Clone, Copy)]
 pub enum Text {
     Chars(usize),
     BadAt(usize),

@@ -6,7 +6,7 @@
 // The proofs rest on none of this. It ties the definitions in `utf8` to a decoder that somebody else wrote.
 ghost use Rattle.std.specs.Prelude.{◌+◌, ◌<◌, ◌≤◌, length};
 
-use hex::Number;
+use hexadecimal::Number;
 use libc::STDOUT_FILENO;
 use utf8::{Decoded, Text};
 
@@ -14,7 +14,7 @@ use utf8::{Decoded, Text};
 const ANSWER: usize = 13;
 
 // What `utf8` says of a sequence, in the numbers of a line.
-#[derive(Drop)]
+#[derive(Clone, Copy)]
 struct Says {
     code: u64,
     width: u64,
@@ -51,7 +51,7 @@ fn answer(bytes: &[u8]) -> Says {
 
 // Whether a number stands at a position in so many digits.
 fn stands(text: &[u8], at: usize, digits: usize, x: u64) -> bool {
-    match hex::read(text, at, digits) {
+    match hexadecimal::read(text, at, digits) {
         Number::Value(v) => v == x,
         Number::Bad => false,
     }
@@ -92,7 +92,7 @@ fn unhex(text: &[u8], from: usize, bytes: &mut [u8]) -> usize
     let mut n: usize = 0;
     let mut at = from;
     while n < bytes.len() {
-        match hex::read(text, at, 2) {
+        match hexadecimal::read(text, at, 2) {
             Number::Value(v) => {
                 bytes[n] = (v % 256) as u8;
             }
@@ -123,7 +123,7 @@ fn line(text: &[u8], from: usize, end: usize) -> bool
 }
 
 // How many lines there are, and how many of them differ.
-#[derive(Drop)]
+#[derive(Clone, Copy)]
 struct Tally {
     lines: u64,
     differ: u64,

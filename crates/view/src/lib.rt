@@ -15,14 +15,14 @@ use cut::{Connection, Cut, Excluded, Expected};
 use refusal::Refusal;
 
 // The lattice is there, or why not.
-#[derive(Drop)]
+#[derive(Clone, Copy)]
 pub enum Seen {
     Whole,
     Refused(Refusal),
 }
 
 // Where a word's edges and offsets stand, and how many characters it has.
-#[derive(Drop)]
+#[derive(Clone, Copy)]
 pub struct Located {
     pub seen: Seen,
     pub from: usize,
@@ -101,7 +101,7 @@ fn edges_of<'a>(edges: &'a [u32], word: Located) -> &'a [u32]
 }
 
 // One word's lattice, borrowed: its n + 2 offsets, and where each of its edges starts and which piece it is.
-#[derive(Drop)]
+#[derive(Clone, Copy)]
 pub struct LatticeView<'a> {
     pub offsets: &'a [u32],
     pub starts: &'a [u32],

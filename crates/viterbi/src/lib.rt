@@ -17,7 +17,7 @@ ghost use Rattle.viterbi.specs.Answers.{Asked, Behind, Answers};
 use floats::{is_finite, lowest};
 
 // The greatest sum at one position so far, and the edge that gave it.
-#[derive(Drop)]
+#[derive(Clone, Copy)]
 struct Choice {
     top: f64,
     via: u32,
@@ -168,14 +168,14 @@ pub fn path_core(
 }
 
 // "the best cut is either a score or no path"
-#[derive(Drop)]
+#[derive(Clone, Copy)]
 pub enum Best {
     Score(f64),
     NoPath,
 }
 
 // The best cut's score, and how many ids it has. No path has none.
-#[derive(Drop)]
+#[derive(Clone, Copy)]
 pub struct Cutting {
     pub best: Best,
     pub count: usize,
@@ -214,7 +214,7 @@ pub fn viterbi_core(
 }
 
 // "the path comes back by value, 32 ids with their count"
-#[derive(Drop)]
+#[derive(Clone, Copy)]
 pub struct Short {
     pub best: Best,
     pub ids: [u32; 32],

@@ -1,10 +1,10 @@
 -- Digits and numbers: 0 to 9 and a to f, in ASCII.
 -- Assumes nothing.
 use Rattle.std.specs.Prelude.{ℕ, zero, suc, ◌+◌, ◌-◌, ◌*◌, ◌/◌, ◌%◌, cond, List, [], ◌∷◌, ◌++◌, leb, ltb}
-use Rattle.hex.specs.declared.Nibble.{Nibble}
-use Rattle.hex.specs.declared.Nibble.TheVariants.{Value as Digit, Bad as NoDigit}
-use Rattle.hex.specs.declared.Number.{Number}
-use Rattle.hex.specs.declared.Number.TheVariants.{Value, Bad}
+use Rattle.hexadecimal.specs.declared.Nibble.{Nibble}
+use Rattle.hexadecimal.specs.declared.Nibble.TheVariants.{Value as Digit, Bad as NoDigit}
+use Rattle.hexadecimal.specs.declared.Number.{Number}
+use Rattle.hexadecimal.specs.declared.Number.TheVariants.{Value, Bad}
 
 -- the digit of a number below 16
 abbrev pub digit_of : ℕ → ℕ

@@ -1,9 +1,9 @@
--- `hex::digit` meets its contract: the test chooses the case of `digit_of`.
+-- `hexadecimal::digit` meets its contract: the test chooses the case of `digit_of`.
 -- Assumes nothing.
 use borrow.Author.Rules.{rules}
 use borrow.Author.Tests.{lt-ltb, le-ltb}
-use Rattle.hex.proofs.digit.Statement.{statement}
-use Rattle.hex.proofs.digit.Tie as tie
+use Rattle.hexadecimal.proofs.digit.Statement.{statement}
+use Rattle.hexadecimal.proofs.digit.Tie as tie
 
 add_result : tie.Need-overflow-add-result
 add_result c = search rules

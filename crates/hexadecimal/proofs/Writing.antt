@@ -9,9 +9,9 @@ use native.Mathlib.Omega.{arith}
 use lib.ListN.{length, set, length-set, length-append}
 use lib.Seq.{sets, set_comm}
 use borrow.Author.Tests.{le-leb, lt-leb}
-use Rattle.hex.specs.Digits.{digit_of, digits_of}
-use Rattle.hex.specs.Frames.{written_at, write_at}
-use Rattle.hex.specs.declared.Written.TheVariants.{Upto, NoRoom}
+use Rattle.hexadecimal.specs.Digits.{digit_of, digits_of}
+use Rattle.hexadecimal.specs.Frames.{written_at, write_at}
+use Rattle.hexadecimal.specs.declared.Written.TheVariants.{Upto, NoRoom}
 
 pub length_digits : (n x : ℕ) → length (digits_of n x) ≡ n
 unfolding digits_of

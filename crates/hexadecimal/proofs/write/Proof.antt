@@ -1,10 +1,10 @@
--- `hex::write` meets its contract. The invariant says how far the loop has come; the measure is how many digits are left.
+-- `hexadecimal::write` meets its contract. The invariant says how far the loop has come; the measure is how many digits are left.
 -- Assumes nothing.
 use borrow.Author.Rules.{rules}
 use native.Mathlib.Omega.{arith}
-use Rattle.hex.proofs.Writing.{Writing, no_room, writing_none, writing_more, writing_end}
-use Rattle.hex.proofs.write.Statement.{statement}
-use Rattle.hex.proofs.write.Tie as tie
+use Rattle.hexadecimal.proofs.Writing.{Writing, no_room, writing_none, writing_more, writing_end}
+use Rattle.hexadecimal.proofs.write.Statement.{statement}
+use Rattle.hexadecimal.proofs.write.Tie as tie
 
 abbrev invariant-loop : tie.invariant-loop
 invariant-loop out₀ at digits x left₀ k₀ out left k = Writing out₀ out at digits x left k

@@ -7,9 +7,9 @@ use native.Mathlib.Omega.{arith}
 use lib.Dec.{leb, ltb}
 use borrow.Author.Tests.{ltb-false, leb-true, ltb-true, lt-ltb, le-ltb, le-leb, lt-leb}
 use Rattle.laws.proofs.Choices.{cond_cases}
-use Rattle.hex.specs.Digits.{digit_of, value_of}
-use Rattle.hex.specs.declared.Nibble.{Nibble}
-use Rattle.hex.specs.declared.Nibble.TheVariants.{Value as Digit, Bad as NoDigit}
+use Rattle.hexadecimal.specs.Digits.{digit_of, value_of}
+use Rattle.hexadecimal.specs.declared.Nibble.{Nibble}
+use Rattle.hexadecimal.specs.declared.Nibble.TheVariants.{Value as Digit, Bad as NoDigit}
 
 -- a number below 16 has the one digit
 abbrev Made : ℕ → Nibble → Type 0

@@ -10,13 +10,13 @@ use lib.Dec.{lit<, leb}
 use lib.ListN.{length, take, drop, get_or, length-drop}
 use lib.Seq.{sets, sets-eq, length-sets, take_at, drop_at, length-take-le, take-suc, take_all}
 use borrow.Author.Tests.{le-leb, leb-true}
-use Rattle.hex.specs.Digits.{digit_of, value_of, digits_of, then, numeral}
-use Rattle.hex.specs.Frames.{read_at, write_at}
-use Rattle.hex.specs.declared.Number.TheVariants.{Value, Bad}
-use Rattle.hex.specs.declared.Nibble.{Nibble}
-use Rattle.hex.specs.declared.Nibble.TheVariants.{Value as Digit, Bad as NoDigit}
-use Rattle.hex.proofs.Valued.{value_digit, digit_below, digit_made}
-use Rattle.hex.proofs.Writing.{length_digits}
+use Rattle.hexadecimal.specs.Digits.{digit_of, value_of, digits_of, then, numeral}
+use Rattle.hexadecimal.specs.Frames.{read_at, write_at}
+use Rattle.hexadecimal.specs.declared.Number.TheVariants.{Value, Bad}
+use Rattle.hexadecimal.specs.declared.Nibble.{Nibble}
+use Rattle.hexadecimal.specs.declared.Nibble.TheVariants.{Value as Digit, Bad as NoDigit}
+use Rattle.hexadecimal.proofs.Valued.{value_digit, digit_below, digit_made}
+use Rattle.hexadecimal.proofs.Writing.{length_digits}
 
 -- one digit more
 digit_read : (v w : ℕ) (s : List ℕ) → v < 16 → numeral (digit_of v ∷ s) w ≡ numeral s (w * 16 + v)

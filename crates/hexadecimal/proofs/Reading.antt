@@ -10,11 +10,11 @@ use lib.Dec.{lit<}
 use lib.ListN.{length, take, drop, get_or}
 use lib.Seq.{drop-cons}
 use borrow.Author.Tests.{le-leb, lt-leb}
-use Rattle.hex.specs.Digits.{value_of, then, numeral}
-use Rattle.hex.specs.Frames.{read_at}
-use Rattle.hex.specs.declared.Nibble.TheVariants.{Value as Digit, Bad as NoDigit}
-use Rattle.hex.specs.declared.Number.TheVariants.{Value, Bad}
-use Rattle.hex.proofs.Valued.{digit_below}
+use Rattle.hexadecimal.specs.Digits.{value_of, then, numeral}
+use Rattle.hexadecimal.specs.Frames.{read_at}
+use Rattle.hexadecimal.specs.declared.Nibble.TheVariants.{Value as Digit, Bad as NoDigit}
+use Rattle.hexadecimal.specs.declared.Number.TheVariants.{Value, Bad}
+use Rattle.hexadecimal.proofs.Valued.{digit_below}
 
 -- the digits before `next` made `sum`, and those up to the end are still to come
 pub record Reading (text : List ℕ) (at n next sum : ℕ) : Type 0 where

@@ -1,9 +1,9 @@
--- `hex::value` meets its contract: one law of `Valued` for each way out.
+-- `hexadecimal::value` meets its contract: one law of `Valued` for each way out.
 -- Assumes nothing.
 use borrow.Author.Rules.{rules}
-use Rattle.hex.proofs.Valued.{below_0, from_0, below_a, from_a, beyond_f}
-use Rattle.hex.proofs.value.Statement.{statement}
-use Rattle.hex.proofs.value.Tie as tie
+use Rattle.hexadecimal.proofs.Valued.{below_0, from_0, below_a, from_a, beyond_f}
+use Rattle.hexadecimal.proofs.value.Statement.{statement}
+use Rattle.hexadecimal.proofs.value.Tie as tie
 
 returns : tie.Need-returns
 returns c = below_0 _ c.if1.true

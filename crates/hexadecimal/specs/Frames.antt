@@ -2,11 +2,11 @@
 -- Assumes nothing.
 use Rattle.std.specs.Prelude.{cond, ℕ, ◌+◌, List, leb, length, take, drop}
 use Rattle.std.proofs.lemmas.List.Edits.{sets}
-use Rattle.hex.specs.Digits.{digits_of, numeral}
-use Rattle.hex.specs.declared.Number.{Number}
-use Rattle.hex.specs.declared.Number.TheVariants.{Bad}
-use Rattle.hex.specs.declared.Written.{Written}
-use Rattle.hex.specs.declared.Written.TheVariants.{Upto, NoRoom}
+use Rattle.hexadecimal.specs.Digits.{digits_of, numeral}
+use Rattle.hexadecimal.specs.declared.Number.{Number}
+use Rattle.hexadecimal.specs.declared.Number.TheVariants.{Bad}
+use Rattle.hexadecimal.specs.declared.Written.{Written}
+use Rattle.hexadecimal.specs.declared.Written.TheVariants.{Upto, NoRoom}
 
 -- n digits from `at` on, if there are so many and no more than a u64 holds
 unfoldable pub read_at : List ℕ → ℕ → ℕ → Number

@@ -1,15 +1,15 @@
--- `hex::read` meets its contract. The invariant says how far the loop has come; the measure is how many digits are left.
+-- `hexadecimal::read` meets its contract. The invariant says how far the loop has come; the measure is how many digits are left.
 -- Assumes nothing.
 use borrow.Author.Rules.{rules}
 use Prim.Native.Nat.{◌+◌, ◌-◌, ◌<◌}
 use mathlib.Core.Path.{◌≡◌, refl, ◌∙◌, sym}
 use native.Mathlib.Omega.{arith}
 use lib.ListN.{get_or}
-use Rattle.hex.specs.Digits.{value_of}
-use Rattle.hex.specs.declared.Nibble.TheVariants.{Value}
-use Rattle.hex.proofs.Reading.{Reading, too_many, too_short, reading_none, reading_room, reading_more, reading_bad, reading_end}
-use Rattle.hex.proofs.read.Statement.{statement}
-use Rattle.hex.proofs.read.Tie as tie
+use Rattle.hexadecimal.specs.Digits.{value_of}
+use Rattle.hexadecimal.specs.declared.Nibble.TheVariants.{Value}
+use Rattle.hexadecimal.proofs.Reading.{Reading, too_many, too_short, reading_none, reading_room, reading_more, reading_bad, reading_end}
+use Rattle.hexadecimal.proofs.read.Statement.{statement}
+use Rattle.hexadecimal.proofs.read.Tie as tie
 
 abbrev invariant-loop : tie.invariant-loop
 invariant-loop text at digits end next₀ sum₀ next sum = Reading text at digits next sum × (end ≡ at + digits)

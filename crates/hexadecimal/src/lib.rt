@@ -4,25 +4,25 @@
 // the u16, the u32 and the u64 of a frame. Both are total: what does not fit is answered by a case of an enum, and nothing
 // is written then. An upper-case digit is no digit, so each number has one spelling at each width.
 ghost use Rattle.std.specs.Prelude.{◌≡◌, ◌%◌, length};
-ghost use Rattle.hex.specs.Digits.{digit_of, value_of};
-ghost use Rattle.hex.specs.Frames.{read_at, written_at, write_at};
+ghost use Rattle.hexadecimal.specs.Digits.{digit_of, value_of};
+ghost use Rattle.hexadecimal.specs.Frames.{read_at, written_at, write_at};
 
 // What a byte is as a digit.
-#[derive(Drop)]
+#[derive(Clone, Copy)]
 pub enum Nibble {
     Value(u8),
     Bad,
 }
 
 // What some bytes are as a number.
-#[derive(Drop)]
+#[derive(Clone, Copy)]
 pub enum Number {
     Value(u64),
     Bad,
 }
 
 // Where the next byte goes after a number was written; or there was no room, and nothing was written.
-#[derive(Drop)]
+#[derive(Clone, Copy)]
 pub enum Written {
     Upto(usize),
     NoRoom,
