@@ -1,3 +1,5 @@
+#![tactic(auto)]
+
 // What the best cut of a word is: document 01, port order 7, and demand 3, second part.
 //
 // There is no code here. specs/ says it of any scores that can be added and compared: a lattice by numbers, its cuts, their
