@@ -1,6 +1,6 @@
 -- Whole numbers as floats, and floats as whole numbers. Assumes nothing.
 use mathlib.Core.Path.{◌≡◌, sym, ap, ◌∙◌, subst}
-use Prim.Native.Nat.{ℕ, ◌*◌, ◌/◌, ◌%◌, ◌^◌, ◌≤◌, ◌<◌, min}
+use Prim.Native.Nat.{ℕ, ◌*◌, ◌/◌, ◌%◌, ◌^◌, ◌<◌, min}
 use native.Mathlib.Nat.{le_trans, le_of_eq, le_of_lt, lt_of_lt_of_le, lt_of_le_of_lt, mul-one, mul_assoc, mul_right_comm, mul-lt-mul_of_pos_right, mul-pos, mul-div_cancel, mul-mod_left, eq_of_mul-eq-mul_right}
 use native.Mathlib.Omega.{arith}
 use mathlib.Core.Bool.{true, false, ◌&&◌, true≢false}

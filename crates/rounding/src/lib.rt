@@ -4,3 +4,4 @@
 // proved once for every kernel of `math` and every bound of `bounds`. A value that is finite and
 // not negative is a whole number of units of 2^-1074, the smallest f64 above zero, so that every
 // statement is one about whole numbers.
+#![tactic(auto)]
