@@ -1,4 +1,6 @@
 // The ends of the floats, and what lies between them.
+#![tactic(auto)]
+
 ghost use Rattle.std.specs.Prelude.{◌≡◌, true, false};
 ghost use Rattle.std.specs.Float.{inf};
 ghost use Rattle.std.specs.Float.Ieee.Scale.{finite};
