@@ -16,6 +16,8 @@
 // worst mean is 1.74; where the key is missing, 37 and 2.86. Of eight second constants that were tried over 17 families and 22
 // sizes this one is the best. The program places_probes counts anew at each check. Whoever knows the constants can still
 // choose keys that share a home, as with the Rust's hasher: the table is then slow, and right.
+#![tactic(auto)]
+
 ghost use Rattle.std.specs.Prelude.{◌≡◌, ◌+◌, ◌-◌, ◌/◌, ◌<◌, ◌≤◌, length, nat_le};
 ghost use Rattle.places.specs.Walk.{key_of, home_of, seek, stop_of};
 ghost use Rattle.places.specs.Map.{found_in, inserted_in, put_in};
