@@ -1,3 +1,5 @@
+#![tactic(auto)]
+
 // What a word's lattice is, and what pruning does to it: document 01, port order 4 and 5, and demand 3, first part.
 //
 // There is no code here. specs/ says it over lists of characters, in document 01's sentences, and specs/Layout.antt
