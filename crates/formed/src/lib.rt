@@ -4,6 +4,8 @@
 // and p+1 end at p; start < end; starts strictly rise at each end; each piece id has a score (for retain, a remap entry);
 // starts and ids are equally many". Every call that takes a lattice asks this first, and so may index by what it holds. It
 // is one pass over the word's offsets and edges.
+#![tactic(auto)]
+
 ghost use Rattle.std.specs.Prelude.{◌≡◌, ◌+◌, ◌≤◌, ◌<◌, length, get_or};
 ghost use Rattle.laws.specs.Tests.{Says};
 ghost use Rattle.formed.specs.Formed.{Inside, EdgeFrom, EndFormed, Formed};
