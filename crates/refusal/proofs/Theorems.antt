@@ -7,7 +7,7 @@ use Prim.Native.Nat.{ℕ, ◌<◌}
 use native.Mathlib.Decide.{dec_lt}
 use native.Mathlib.Omega.{arith}
 use Rattle.refusal.specs.declared.Refusal.{Refusal}
-use Rattle.refusal.specs.Rows.{Row, needs, bars, single, refusal_at, places_of, Right, Wrong, Clear, Lowest, Gives, NoneOf, First}
+use Rattle.refusal.specs.Rows.{Row, needs, bars, single, refusal_at, Right, Wrong, Clear, Lowest, Gives, NoneOf, First}
 
 -- ---- one row
 pub apart : (row : Row) (k : ℕ) → Wrong row k → Right row k → ⊥

@@ -9,6 +9,8 @@
 // A case holds its place and nothing else. The rows whose place is always 0 hold nothing. A place is a u64: the index that
 // a caller lends or asks for is a usize of 64 bits, which a place must be able to repeat (`view` of an absent index is
 // BadLattice at that index), so no narrower type would hold every place.
+#![tactic(auto)]
+
 ghost use Rattle.std.specs.Prelude.{◌≡◌};
 ghost use Rattle.refusal.specs.Numbers.{number_of, place_of};
 

@@ -2,6 +2,8 @@
 //
 // Document 01 counts by "the shortest", wherever slices that belong together are lent with different lengths; and "Work slices
 // hold zeros after every call, accepted or refused."
+#![tactic(auto)]
+
 ghost use Rattle.std.specs.Prelude.{◌≡◌, false, min, length, replicate, pos};
 ghost use Rattle.std.specs.Float.{fin};
 

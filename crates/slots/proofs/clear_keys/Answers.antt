@@ -1,0 +1,15 @@
+use Rattle.laws.proofs.Fills.{filled_none, filled_more, filled_all}
+use native.Mathlib.Omega.{arith}
+use Rattle.slots.proofs.clear_keys.Goals as goal
+
+pub loop-slot-init : goal.loop-slot-init
+loop-slot-init c = filled_none _ _
+
+pub loop-slot-smaller : goal.loop-slot-smaller
+loop-slot-smaller c = omega (arith, c.loop-slot.invariant.long)
+
+pub loop-slot-preserved : goal.loop-slot-preserved
+loop-slot-preserved c = filled_more (omega (arith, c.loop-slot.invariant.long)) c.loop-slot.invariant
+
+pub returns : goal.returns
+returns c = filled_all c.loop-slot-test.false c.loop-slot.invariant
