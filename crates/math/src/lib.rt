@@ -4,6 +4,8 @@
 // in symbols. Each function here equals it. The bounds that document 01 asks for are theorems about
 // the definition, in the crate `bounds`. Training spends most of its time in `exp` and `ln_1p`, so
 // their kernels are one table step and one short polynomial, with no division and no branch.
+#![tactic(auto)]
+
 ghost use Rattle.std.specs.Prelude.{◌≡◌};
 ghost use Rattle.std.specs.Float.{binary64};
 ghost use Rattle.std.specs.Float.Ieee.{of_bits, to_bits};

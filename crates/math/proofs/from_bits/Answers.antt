@@ -8,8 +8,7 @@ use lib.Dec.{T, ltb, ltb→lt, lt→ltb, not_T}
 use lib.Ieee.{Float, nan, inf, fin, binary64, is_nan, nan_bits, of_bits}
 use lib.Ieee.Bits.{nan_bits_is, nan_bits_above}
 use Rattle.math.proofs.Tests.{no_number}
-use Rattle.math.proofs.from_bits.Statement.{statement}
-use Rattle.math.proofs.from_bits.Tie as tie
+use Rattle.math.proofs.from_bits.Goals as goal
 
 is_nan_lem : (x : Float) → T (is_nan x) → x ≡ nan
 unfolding is_nan
@@ -23,14 +22,8 @@ above b h = sym (is_nan_lem (of_bits binary64 b) (subst T (nan_bits_is binary64 
 under : (b : ℕ) → b % 0x8000_0000_0000_0000 ≤ 0x7ff0_0000_0000_0000 → T (not (nan_bits binary64 b))
 under b h = subst (λ (t : Bool). T (not t)) (sym (nan_bits_above binary64 b)) (not_T (ltb 0x7ff0_0000_0000_0000 (b % 0x8000_0000_0000_0000)) (λ (t : T (ltb 0x7ff0_0000_0000_0000 (b % 0x8000_0000_0000_0000))). not-le_of_lt (ltb→lt 0x7ff0_0000_0000_0000 (b % 0x8000_0000_0000_0000) t) h))
 
-float_from_bits_result : tie.Need-float-from-bits-result
-float_from_bits_result c = under c.before.args.b (search rules)
+pub float_from_bits-result : goal.float_from_bits-result
+float_from_bits-result c = under c.args.b (search rules)
 
-returns : tie.Need-returns
-returns c = no_number ∙ above c.before.args.b (search rules)
-
-returns_2 : tie.Need-returns-2
-returns_2 c = search rules
-
-pub from_bits_spec : {M : Type 1} → statement M
-from_bits_spec = tie.close (tie.spec float_from_bits_result returns returns_2)
+pub returns-then-b-gt9218868437227405312 : goal.returns-then-b-gt9218868437227405312
+returns-then-b-gt9218868437227405312 c = no_number ∙ above c.args.b (search rules)
