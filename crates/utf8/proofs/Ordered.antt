@@ -79,12 +79,31 @@ parts c d h =
 pub ahead : (c d : ℕ) → c < d → (s t : List ℕ) → Before (encode c ++ s) (encode d ++ t)
 ahead c d h s t = below_before (parts c d h) s t
 
+-- what the order says of two lists, by how they begin
+abbrev Begun : List ℕ → List ℕ → Type 0
+Begun xs [] = ⊥
+Begun [] (y ∷ ys) = Unit
+Begun (x ∷ xs) (y ∷ ys) = (x < y) ⊎ ((x ≡ y) × Before xs ys)
+
+begun : {xs ys : List ℕ} → Before xs ys → Begun xs ys
+begun shorter = tt
+begun (here h) = inl h
+begun (later b) = inr (refl, b)
+
+apart : (xs ys : List ℕ) → Before xs ys → Before ys xs → ⊥
+apart xs [] b d = begun b
+apart [] (y ∷ ys) b d = begun d
+apart (x ∷ xs) (y ∷ ys) b d = go (begun b) (begun d) (λ (e : Before xs ys) (f : Before ys xs). apart xs ys e f)
+  where
+    go : (x < y) ⊎ ((x ≡ y) × Before xs ys) → (y < x) ⊎ ((y ≡ x) × Before ys xs) → (Before xs ys → Before ys xs → ⊥) → ⊥
+    go (inl h) (inl k) f = omega arith
+    go (inl h) (inr (k, e)) f = omega (arith, k)
+    go (inr (h, e)) (inl k) f = omega (arith, h)
+    go (inr (h, e)) (inr (k, d)) f = f e d
+
 -- the order is strict
 pub not_both : {xs ys : List ℕ} → Before xs ys → Before ys xs → ⊥
-not_both (here h) (here k) = omega arith
-not_both (here h) (later k) = omega arith
-not_both (later h) (here k) = omega arith
-not_both (later h) (later k) = not_both h k
+not_both {xs} {ys} h k = apart xs ys h k
 
 pub not_itself : {xs ys : List ℕ} → Before xs ys → xs ≡ ys → ⊥
 not_itself {xs} {ys} b e = not_both b (subst₂ Before e (sym e) b)

@@ -8,6 +8,8 @@
 // So a loop over a text takes `classes()` once and lends it to `decode_by`. On a text whose script changes every few words,
 // eight scripts in all, `measure` so reads 800 MB/s, where a loop of `decode` reads 560 (x86-64). An ASCII byte is its own
 // character, and is answered before the table is asked.
+#![tactic(auto)]
+
 mod table;
 
 ghost use Rattle.std.specs.Prelude.{◌≡◌, ◌+◌, ◌≤◌, ◌<◌, length, drop};

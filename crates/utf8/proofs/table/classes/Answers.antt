@@ -2,12 +2,8 @@
 -- Assumes nothing.
 use mathlib.Core.Path.{refl}
 use Rattle.utf8.proofs.Classed.{is_class, right_table}
-use Rattle.utf8.proofs.table.classes.Statement.{statement}
-use Rattle.utf8.proofs.table.classes.Tie as tie
+use Rattle.utf8.proofs.table.classes.Goals as goal
 
-returns : tie.Need-returns
+pub returns : goal.returns
 unfolding is_class
 returns c = right_table _ refl tt
-
-pub classes_spec : {M : Type 1} → statement M
-classes_spec = tie.close (tie.spec returns)
