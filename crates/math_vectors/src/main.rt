@@ -3,10 +3,13 @@
 // In: `E`, `L` or `P` (exp, ln, ln_1p), a space, and the 16 digits of a float's bits. Out: the 16 digits of the result's
 // bits. stdin and stdout beside src/ are the vectors, answers of the reference in tools/math; tools/math/accuracy.py asks
 // many more. Every line of questions has 19 bytes and every answer 17, so that a block needs no search for line ends.
-ghost use Rattle.std.specs.Prelude.{◌+◌, ◌*◌, ◌≤◌, length};
+#![tactic(auto)]
+
+ghost use Rattle.std.specs.Prelude.{◌+◌, ◌*◌, ◌≤◌, length, IfOk};
 
 use hexadecimal::Number;
-use libc::{STDIN_FILENO, STDOUT_FILENO};
+use std::io;
+use std::io::Read;
 
 // How many lines are read at a time.
 const LINES: usize = 1000;
@@ -52,37 +55,53 @@ fn block(asked: &[u8; 19000], lines: usize, told: &mut [u8; 17000])
 }
 
 // Writes the first so many bytes.
-fn send(told: &[u8], bytes: usize)
+fn send(rt: &impl Print, told: &[u8], bytes: usize) -> io::Result<()>
     requires { bytes ≤ length told.now }
 {
-    io::write_all(STDOUT_FILENO, &told[..bytes]);
+    rt.write_all(&told[..bytes])
 }
 
 // Writes so many answers.
-fn send_lines(told: &[u8; 17000], lines: usize)
+fn send_lines(rt: &impl Print, told: &[u8; 17000], lines: usize) -> io::Result<()>
     requires { lines ≤ 1000 }
 {
-    send(told, lines * 17);
+    send(rt, told, lines * 17)
+}
+
+// Reads until the buffer is full or the input ends. It answers how many bytes there are.
+fn read_full<R: Read>(reader: &mut R, buffer: &mut [u8]) -> io::Result<usize>
+    ensures { IfOk result (λ n. n ≤ length buffer.new) }
+{
+    let mut done: usize = 0;
+    while done < buffer.len() {
+        let n = reader.read(&mut buffer[done..])?;
+        if n == 0 {
+            return Ok(done);
+        }
+        done += n;
+    }
+    Ok(done)
 }
 
 // Reads a block, answers it, and says whether there may be more.
-fn turn() -> bool {
+fn turn(rt: &HostRuntime) -> io::Result<bool> {
     let mut asked = [0u8; 19000];
     let mut told = [0u8; 17000];
-    let got = io::read_full(STDIN_FILENO, &mut asked);
+    let got = read_full(&mut rt.stdin(), &mut asked)?;
     let lines = got / 19;
     block(&asked, lines, &mut told);
-    send_lines(&told, lines);
-    lines == LINES
+    send_lines(rt, &told, lines)?;
+    Ok(lines == LINES)
 }
 
 // A proved loop ends, so this one counts its turns down from a number that no run uses up.
-fn main() {
+fn main(rt: HostRuntime) -> io::Result<()> {
     let mut turns = u64::MAX;
     while turns > 0 {
-        if !turn() {
-            return;
+        if !turn(&rt)? {
+            return Ok(());
         }
         turns -= 1;
     }
+    Ok(())
 }

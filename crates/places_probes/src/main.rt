@@ -10,10 +10,12 @@
 // Keys thrown at random into a table that is half full pass 1.5 places in the mean, and 2.5 where they are missing; and the
 // longest walk is some three dozen places. So a longest of 64 and a mean of 3 are bounds that make sense, 4 for a missing key:
 // the last line says how many families are beyond one of them.
+#![tactic(auto)]
+
 ghost use Rattle.std.specs.Prelude.{◌<◌, ◌≤◌, length};
 
-use libc::STDOUT_FILENO;
 use places::Inserted;
+use std::io;
 
 // What a family's keys are: the node steps and the character steps; or the characters go through a row for each node; or the
 // keys are those of words, whose characters are drawn from a row.
@@ -177,26 +179,27 @@ fn family_of(i: u8, size: u64) -> Family {
     }
 }
 
-fn write_name(i: u8) {
+fn name_of(i: u8) -> &'static str {
     match i {
-        0 => io::write_all(STDOUT_FILENO, b"all nodes by one character"),
-        1 => io::write_all(STDOUT_FILENO, b"the root by all characters"),
-        2 => io::write_all(STDOUT_FILENO, b"the root by ideographs"),
-        3 => io::write_all(STDOUT_FILENO, b"all nodes by a Thai block"),
-        4 => io::write_all(STDOUT_FILENO, b"all nodes by every 64th ideograph"),
-        5 => io::write_all(STDOUT_FILENO, b"nodes that are multiples of the places"),
-        6 => io::write_all(
-            STDOUT_FILENO,
-            b"characters that are multiples of the places",
-        ),
-        7 => io::write_all(STDOUT_FILENO, b"nodes that are multiples of 4096"),
-        8 => io::write_all(STDOUT_FILENO, b"node and character both rise"),
-        9 => io::write_all(STDOUT_FILENO, b"the node falls and the character rises"),
-        10 => io::write_all(STDOUT_FILENO, b"one long word of one letter"),
-        11 => io::write_all(STDOUT_FILENO, b"words of letters"),
-        12 => io::write_all(STDOUT_FILENO, b"words of Thai"),
-        _ => io::write_all(STDOUT_FILENO, b"words of ideographs"),
-    };
+        0 => "all nodes by one character",
+        1 => "the root by all characters",
+        2 => "the root by ideographs",
+        3 => "all nodes by a Thai block",
+        4 => "all nodes by every 64th ideograph",
+        5 => "nodes that are multiples of the places",
+        6 => "characters that are multiples of the places",
+        7 => "nodes that are multiples of 4096",
+        8 => "node and character both rise",
+        9 => "the node falls and the character rises",
+        10 => "one long word of one letter",
+        11 => "words of letters",
+        12 => "words of Thai",
+        _ => "words of ideographs",
+    }
+}
+
+fn write_name(rt: &impl Print, i: u8) -> io::Result<()> {
+    rt.print(name_of(i))
 }
 
 // The key after a key, where the last key's node is `last`.
@@ -368,11 +371,10 @@ fn mean(t: Tally) -> u64 {
     total * 100 / count
 }
 
-fn write_tally(t: Tally) {
-    io::write_all(STDOUT_FILENO, b" longest ");
-    io::print_decimal(STDOUT_FILENO, t.longest);
-    io::write_all(STDOUT_FILENO, b" mean ");
-    io::print_decimal(STDOUT_FILENO, mean(t));
+fn write_tally(rt: &impl Print, t: Tally) -> io::Result<()> {
+    let longest = t.longest;
+    let mean = mean(t);
+    print!(rt; " longest {longest} mean {mean}")
 }
 
 // Whether a walk or a mean is beyond its bound.
@@ -384,61 +386,59 @@ fn beyond(t: Tally, bound: u64) -> u64 {
 }
 
 // Writes what a family's keys came to, and answers whether it is beyond a bound.
-fn report(keys: &[u64], i: u8, there: Tally) -> u64 {
+fn report(rt: &impl Print, keys: &[u64], i: u8, there: Tally) -> io::Result<u64> {
     let round = missing(keys, 0);
     let none = missing(keys, round.node);
-    io::print_decimal(STDOUT_FILENO, keys.len() as u64);
-    io::write_all(STDOUT_FILENO, b" ");
-    write_name(i);
-    io::write_all(STDOUT_FILENO, b": ");
-    io::print_decimal(STDOUT_FILENO, there.count);
-    write_tally(there);
-    io::write_all(STDOUT_FILENO, b", missing");
-    write_tally(none);
-    io::write_all(STDOUT_FILENO, b"\n");
+    let size = keys.len();
+    let count = there.count;
+    print!(rt; "{size} ")?;
+    write_name(rt, i)?;
+    print!(rt; ": {count}")?;
+    write_tally(rt, there)?;
+    print!(rt; ", missing")?;
+    write_tally(rt, none)?;
+    println!(rt; "")?;
     if beyond(there, 300) == 1 {
-        1
+        Ok(1)
     } else {
-        beyond(none, 400)
+        Ok(beyond(none, 400))
     }
 }
 
 // Tries a family in a table, and answers whether it is beyond a bound.
-fn case(keys: &mut [u64], i: u8) -> u64
+fn case(rt: &impl Print, keys: &mut [u64], i: u8) -> io::Result<u64>
     requires { length keys.old ≤ 65536 }
 {
     clear(keys);
     let there = fill(keys, family_of(i, keys.len() as u64));
-    report(keys, i, there)
+    report(rt, keys, i, there)
 }
 
 // Tries every family in a table, and answers how many are beyond a bound.
-fn cases(keys: &mut [u64]) -> u64
+fn cases(rt: &impl Print, keys: &mut [u64]) -> io::Result<u64>
     requires { length keys.old ≤ 65536 }
 {
     let mut worse: u64 = 0;
     for i in 0..FAMILIES {
-        worse = add(worse, case(keys, i));
+        worse = add(worse, case(rt, keys, i)?);
     }
-    worse
+    Ok(worse)
 }
 
 // The same in so many places.
-fn sized(keys: &mut [u64], size: usize) -> u64
+fn sized(rt: &impl Print, keys: &mut [u64], size: usize) -> io::Result<u64>
     requires { (size ≤ length keys.old) × (length keys.old ≤ 65536) }
 {
-    cases(&mut keys[..size])
+    cases(rt, &mut keys[..size])
 }
 
-fn main() {
+fn main(rt: HostRuntime) -> io::Result<()> {
     let mut keys = [0u64; 65536];
-    let mut worse = sized(&mut keys, 1024);
-    worse = add(worse, sized(&mut keys, 8192));
-    worse = add(worse, sized(&mut keys, 8191));
-    worse = add(worse, sized(&mut keys, 10007));
-    worse = add(worse, sized(&mut keys, 12288));
-    worse = add(worse, sized(&mut keys, 65536));
-    io::write_all(STDOUT_FILENO, b"beyond a bound: ");
-    io::print_decimal(STDOUT_FILENO, worse);
-    io::write_all(STDOUT_FILENO, b"\n");
+    let mut worse = sized(&rt, &mut keys, 1024)?;
+    worse = add(worse, sized(&rt, &mut keys, 8192)?);
+    worse = add(worse, sized(&rt, &mut keys, 8191)?);
+    worse = add(worse, sized(&rt, &mut keys, 10007)?);
+    worse = add(worse, sized(&rt, &mut keys, 12288)?);
+    worse = add(worse, sized(&rt, &mut keys, 65536)?);
+    println!(rt; "beyond a bound: {worse}")
 }

@@ -4,10 +4,13 @@
 //     BYTES CODE WIDTH WHOLE NUMBER
 //
 // The proofs rest on none of this. It ties the definitions in `utf8` to a decoder that somebody else wrote.
-ghost use Rattle.std.specs.Prelude.{◌+◌, ◌<◌, ◌≤◌, length};
+#![tactic(auto)]
+
+ghost use Rattle.std.specs.Prelude.{◌+◌, ◌<◌, ◌≤◌, length, IfOk};
 
 use hexadecimal::Number;
-use libc::STDOUT_FILENO;
+use std::io;
+use std::io::Read;
 use utf8::{Decoded, Text};
 
 // After BYTES and a space: CODE, WIDTH, WHOLE and NUMBER, with a space between each two.
@@ -148,13 +151,26 @@ fn tally_of(text: &[u8]) -> Tally {
     Tally { lines, differ }
 }
 
-fn main() {
+// Reads until the buffer is full or the input ends. It answers how many bytes there are.
+fn read_full<R: Read>(reader: &mut R, buffer: &mut [u8]) -> io::Result<usize>
+    ensures { IfOk result (λ n. n ≤ length buffer.new) }
+{
+    let mut done: usize = 0;
+    while done < buffer.len() {
+        let n = reader.read(&mut buffer[done..])?;
+        if n == 0 {
+            return Ok(done);
+        }
+        done += n;
+    }
+    Ok(done)
+}
+
+fn main(rt: HostRuntime) -> io::Result<()> {
     let mut buffer = [0u8; 262144];
-    let size = io::read_full(0, &mut buffer);
+    let size = read_full(&mut rt.stdin(), &mut buffer)?;
     let t = tally_of(&buffer[..size]);
-    io::write_all(STDOUT_FILENO, b"utf8_vectors: ");
-    io::print_decimal(STDOUT_FILENO, t.lines);
-    io::write_all(STDOUT_FILENO, b" sequences, ");
-    io::print_decimal(STDOUT_FILENO, t.differ);
-    io::write_all(STDOUT_FILENO, b" differ\n");
+    let lines = t.lines;
+    let differ = t.differ;
+    println!(rt; "utf8_vectors: {lines} sequences, {differ} differ")
 }
