@@ -1,6 +1,8 @@
 // A text, copied behind others that slices hold: its bytes to one slice, and to another where they begin and how many they are.
 //
 // So the crate `spans` reads them. Training's tokens are laid out like this, and so are the words of the frames.
+#![tactic(auto)]
+
 ghost use Rattle.std.specs.Prelude.{◌≡◌, ◌+◌, ◌≤◌, length};
 ghost use Rattle.std.proofs.lemmas.List.Edits.{sets};
 ghost use Rattle.copied.specs.Put.{Putting, Puts};
