@@ -4,6 +4,8 @@
 // numbers a word as 000's `Span` has them. Document 01: each word's lattice is well formed, "and a cache's words follow each
 // other from slot 0". The answer for a cache that is not is the index of the first word that breaks this, which is the place
 // of BadLattice.
+#![tactic(auto)]
+
 ghost use Rattle.std.specs.Prelude.{◌≡◌, ◌≤◌, ◌+◌, ◌*◌, ◌<◌, length};
 ghost use Rattle.laws.specs.Tests.{Says};
 ghost use Rattle.cached.specs.Cached.{span_at, edges_before, offsets_before, Present, WordFormed, Answers};
