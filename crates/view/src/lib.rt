@@ -134,7 +134,7 @@ pub fn view<'a>(
 impl<'a> LatticeView<'a> {
     // Whether some chain of edges leads from the first position of the word to its last.
     pub fn is_connected(self, reach: &mut [u32]) -> Connection
-        ensures connects { Connects self.offsets.now self.starts.now self.ids.now self.n reach.old result }
+        ensures connects { Connects self.entry.offsets.now self.entry.starts.now self.entry.ids.now self.entry.n reach.old result }
         ensures reach_after { reach.new ≡ zeros (length reach.old) }
     {
         cut::is_connected(self.offsets, self.starts, self.ids, self.n, reach)
@@ -148,7 +148,7 @@ impl<'a> LatticeView<'a> {
         back: &mut [u32],
         path: &mut [u32],
     ) -> Cut
-        ensures answers { Answers (lent_of (shown self) scores.now) best.old back.old path.old path.new result }
+        ensures answers { Answers (lent_of (shown self.entry) scores.now) best.old back.old path.old path.new result }
         ensures best_after { (best.new ≡ zero_floats (length best.old)) × (back.new ≡ zeros (length back.old)) }
     {
         cut::viterbi(
@@ -165,7 +165,7 @@ impl<'a> LatticeView<'a> {
 
     // The best score of the word without ever using a piece.
     pub fn viterbi_excluding(self, scores: &[f64], excluded: u32, best: &mut [f64]) -> Excluded
-        ensures excludes { Excludes (lent_of (shown self) scores.now) excluded best.old result }
+        ensures excludes { Excludes (lent_of (shown self.entry) scores.now) excluded best.old result }
         ensures best_after { best.new ≡ zero_floats (length best.old) }
     {
         cut::viterbi_excluding(
@@ -188,7 +188,7 @@ impl<'a> LatticeView<'a> {
         beta: &mut [f64],
         emitted: &mut [f64],
     ) -> Expected
-        ensures expects { Expects (lent_of (shown self) scores.now) alpha.old beta.old emitted.old emitted.new result }
+        ensures expects { Expects (lent_of (shown self.entry) scores.now) alpha.old beta.old emitted.old emitted.new result }
         ensures alpha_after { (alpha.new ≡ zero_floats (length alpha.old)) × (beta.new ≡ zero_floats (length beta.old)) }
     {
         cut::expectations(
