@@ -1,6 +1,8 @@
 // Whether one word's lattice and the scores that a call is lent are as they should be: refusals 9 and 10 of document 01.
 //
 // "Calls on one word's lattice give place 0", so the lattice is well formed or not. A bad score is told by the lowest id.
+#![tactic(auto)]
+
 ghost use Rattle.std.specs.Prelude.{◌≡◌};
 ghost use Rattle.laws.specs.Tests.{Says};
 ghost use Rattle.scores.specs.Floats.{zero_or_below};
