@@ -3,6 +3,8 @@
 // Document 01: "A cut is a chain of edges from position 0 to n; the empty word has one". Training skips a word with "no
 // connection", so it asks this of every word before it sums over its cuts. The layout is lattice.rs's: edges stand by end, so
 // one pass over the ends, rising, marks each position that some edge reaches from a marked one.
+#![tactic(auto)]
+
 ghost use Rattle.std.specs.Prelude.{◌≡◌, ◌<◌, length};
 ghost use Rattle.laws.specs.Tests.{Says};
 ghost use Rattle.connected.specs.Word.{Starting, Linked};
