@@ -3,6 +3,8 @@
 // Words and pieces are lent as a text and a slice of numbers, two each: where its bytes begin, and how many they are. No text
 // is copied, spans may overlap, and an odd number at the end of the slice is no word. `check` is document 01's BadWord and
 // BadPiece: "over 255 bytes, or outside the text" and "not UTF-8 or outside its text", at the lowest index.
+#![tactic(auto)]
+
 ghost use Rattle.std.specs.Prelude.{◌≡◌, ◌+◌, ◌*◌, ◌<◌, length};
 ghost use Rattle.laws.specs.Tests.{Says};
 ghost use Rattle.spans.specs.Spans.{many, from, bytes};
