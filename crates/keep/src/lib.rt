@@ -4,6 +4,8 @@
 // large to the largest; then not below target." In 001 that is `((pieces.len() as f64 * shrink_factor) as usize).max(target)`.
 // Rust's two casts are worked out here: the count as the nearest f64, which is the count itself below 2^53, so that only the
 // product rounds; and the product without its fraction, with the cases that a plain cast has no answer for.
+#![tactic(auto)]
+
 ghost use Rattle.std.specs.Prelude.{◌≡◌};
 ghost use Rattle.keep.specs.Keep.{whole_of, keep_of};
 
