@@ -11,6 +11,8 @@
 // `spans` with the four numbers of the Rust's `Span` a word. That is one slice of spans and not four, because each lent
 // slice is paid for at every call. All is done in place in one pass: an edge moves down or stays where it is, so what is
 // written over has been read. The bodies of the loops are functions of their own, from one edge to one span.
+#![tactic(auto)]
+
 ghost use Rattle.std.specs.Prelude.{◌≡◌, cond, List, map, ◌++◌, ◌+◌, ◌-◌, ◌≤◌, ◌<◌, length, get_or, set, take, drop};
 ghost use Rattle.lattice.specs.Lattice.{Edge};
 ghost use Rattle.lattice.specs.Pruning.{retained};
