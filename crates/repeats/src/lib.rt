@@ -13,6 +13,8 @@
 // numbers with heads and tails, runs of one byte, Cyrillic, Chinese, random letters) in up to 8 sizes, to a million, an index
 // is compared with 1.22 earlier ones at the worst mean, and no bucket has more than 9. Of eight constants that were tried this
 // one is the best. Whoever knows it can still choose words that share a bucket: the search is then slow, and right.
+#![tactic(auto)]
+
 ghost use Rattle.std.specs.Prelude.{◌≡◌, false, ◌+◌, ◌≤◌, ◌<◌, length, get_or};
 ghost use Rattle.laws.specs.Tests.{Says};
 ghost use Rattle.laws.proofs.Ranges.{Between};
