@@ -3,6 +3,8 @@
 // `read` and `write` take the number of digits, two for each byte of the number's width, so that one law holds for the u8,
 // the u16, the u32 and the u64 of a frame. Both are total: what does not fit is answered by a case of an enum, and nothing
 // is written then. An upper-case digit is no digit, so each number has one spelling at each width.
+#![tactic(auto)]
+
 ghost use Rattle.std.specs.Prelude.{◌≡◌, ◌%◌, length};
 ghost use Rattle.hexadecimal.specs.Digits.{digit_of, value_of};
 ghost use Rattle.hexadecimal.specs.Frames.{read_at, written_at, write_at};
