@@ -5,6 +5,8 @@
 // take scores at zero or below, and say what their answer means: a cut that wins, said of cuts alone, in the crate `scores`.
 // The forward pass is one pass over the edges, ends rising. The walk back goes twice, to count and then to write from the end,
 // so that nothing is turned round afterwards.
+#![tactic(auto)]
+
 ghost use Rattle.std.specs.Prelude.{◌≡◌, true, List, ◌++◌, ℕ, ◌+◌, ◌≤◌, ◌<◌, length, drop, replicate};
 ghost use Rattle.std.specs.Float.{inf};
 ghost use Rattle.scores.specs.Table.{step, ending, table, edges_to, best as greatest};
