@@ -3,6 +3,8 @@
 // These are the fields of 001's `UnigramTrainerBuilder`, by value. Document 01: "Defaults from 001 (8,000; unset; 16; 2; 0.75;
 // 2; none) and `DEFAULT_SEED_MULTIPLE` 16 belong to the settings type", so they are constants of `Settings`. The specials are
 // lent beside it, as a text and two numbers each (crate `spans`); by default the slices are empty.
+#![tactic(auto)]
+
 ghost use Rattle.std.specs.Prelude.{◌≡◌};
 ghost use Rattle.laws.specs.Tests.{Says};
 ghost use Rattle.settings.specs.Settings.{defaults, seed_of, target_of, pool_of};
