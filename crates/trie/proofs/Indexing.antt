@@ -3,17 +3,13 @@
 use mathlib.Core.Path.{◌≡◌, refl, sym, ap, ◌∙◌, subst}
 use mathlib.Core.List.{List, []}
 use Prim.Native.Nat.{ℕ, zero, suc, ◌+◌, ◌-◌, ◌≤◌, ◌<◌}
-use native.Mathlib.Nat.{lt_irrefl}
-use native.Mathlib.Decide.{dec_lt}
 use native.Mathlib.Numerals.{add-one}
 use native.Mathlib.Omega.{arith}
-use lib.ListN.{length, get_or, take, drop, set, length-set, length-replicate}
-use lib.Seq.{ext_get_or, get_or-set_same, get_or-set_other}
+use lib.ListN.{length, take, drop, length-replicate}
 use Rattle.utf8.specs.Chars.{chars_of}
 use Rattle.spans.specs.Spans.{many, from, bytes, octets, chars_at}
 use Rattle.spans.specs.Check.{AllGood}
 use Rattle.places.specs.Entries.{zeros}
-use Rattle.places.proofs.Filled.{zeros_at}
 use Rattle.trie.specs.Prefixes.{joined, prefixes_of}
 use Rattle.trie.specs.Listed.{newest_of}
 use Rattle.trie.specs.Trie.{Trie}

@@ -14,6 +14,8 @@
 //
 // A caller walks by a loop of its own, with `places::find` at each character: proofs/Walked.antt says what a step finds.
 // proofs/Theorems.antt has all in document 01's words, and proofs/Same.antt says that the ids are the lattice's.
+#![tactic(auto)]
+
 ghost use Rattle.std.specs.Prelude.{[], ◌≤◌, ◌<◌, length};
 ghost use Rattle.utf8.specs.Chars.{chars_of};
 ghost use Rattle.trie.specs.Trie.{Trie};
