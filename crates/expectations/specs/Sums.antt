@@ -1,5 +1,5 @@
 -- The sums over a word's cuts: document 01's port order 6, "Order of every sum as in 000: ends rising, starts rising, backward pass ends falling". Definitions only.
-use Rattle.std.specs.Prelude.{◌≡◌, true, cond, List, [], ◌∷◌, ◌++◌, ℕ, zero, suc, ◌+◌, ◌-◌, ◌≤◌, ◌<◌, eqb, length, get_or, replicate, Float}
+use Rattle.std.specs.Prelude.{◌≡◌, true, cond, List, [], ◌∷◌, ◌++◌, ℕ, zero, suc, ◌-◌, ◌≤◌, ◌<◌, eqb, length, get_or, replicate, Float}
 use Rattle.std.specs.Float.{nan, inf}
 use Rattle.std.specs.Float.Ieee.Scale.{finite}
 use Rattle.math.specs.Steps.{exp_steps, ◌⊕◌, ◌⊖◌, zero as nought}

@@ -3,6 +3,8 @@
 // A float's bits depend on the order of its sums, so that order is lattice.rs's at every place: "ends rising, starts rising,
 // backward pass ends falling". The sums are taken pairwise, each by one exp and one ln_1p: lattice.rs measured that this is
 // the quicker way where a position has a handful of edges.
+#![tactic(auto)]
+
 ghost use Rattle.std.specs.Prelude.{◌≡◌, true, ◌++◌, ◌+◌, ◌≤◌, ◌<◌, length, get_or, drop, set, replicate, take};
 ghost use Rattle.std.specs.Float.{inf, nan};
 ghost use Rattle.math.specs.Steps.{◌⊕◌};
