@@ -4,6 +4,8 @@
 // does. The answer goes out by `write_answer`, `write_token` and `write_count`. All are total, and what breaks the rules is a
 // case of an enum: it is the program that turns it into BadFrame. Nothing here reads or writes a file, so each promise is one
 // equation with a definition of specs/, which are the document's sentences over lists of bytes.
+#![tactic(auto)]
+
 mod input;
 mod line;
 mod output;
