@@ -2,6 +2,8 @@
 //
 // Document 01: "Building a cache checks 2 (piece length), 3 (no frequency; also for a word not UTF-8), 14, 15, 7", of which 7 at
 // place 0 comes before 3. These are the refusals that need no trie. The first that applies is given, at its lowest place.
+#![tactic(auto)]
+
 ghost use Rattle.laws.specs.Tests.{Says};
 ghost use Rattle.inputs.specs.Inputs.{Bounded, Answers};
 
