@@ -6,6 +6,8 @@
 // longest setting, and what a walk does not reach is cleared, so that one grid serves all words.
 //
 // The word's characters are decoded once, and each start walks over numbers.
+#![tactic(auto)]
+
 ghost use Rattle.std.specs.Prelude.{◌≡◌, cond, ◌≤◌, ◌<◌, ltb, length};
 ghost use Rattle.rows.specs.Chars.{Decoding, Decodes};
 ghost use Rattle.utf8.specs.Decode.{Right};
