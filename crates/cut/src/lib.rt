@@ -3,6 +3,8 @@
 // Each call checks, works and clears. Document 01: "Viterbi checks 9, 10, 7, 11, 12; `expectations` and `viterbi_excluding` 9,
 // 10, 7". "Calls on one word's lattice give place 0". A refusal leaves the path as it was, and the work slices hold zeros after
 // every call. 12, a walk back that meets a position with no edge, is never given: a lattice that is well formed has the edge.
+#![tactic(auto)]
+
 ghost use Rattle.std.specs.Prelude.{◌≡◌, ◌≤◌, ◌<◌, length};
 ghost use Rattle.laws.specs.Tests.{Says};
 ghost use Rattle.cut.specs.Cut.{Rooms, Answers, Excludes, zeros, zero_floats};
@@ -46,7 +48,7 @@ fn check(
     scores: &[f64],
     room: bool,
 ) -> Checked
-    ensures { Checks (record { offsets = offsets.entry.now; starts = starts.now; ids = ids.now; n = n; scores = scores.now }) room result }
+    ensures { Checks (record { offsets = offsets.now; starts = starts.now; ids = ids.now; n = n; scores = scores.now }) room result }
 {
     if !word_formed(offsets, starts, ids, scores.len(), n) {
         return Checked::Refused(Refusal::BadLattice(0));
@@ -87,7 +89,7 @@ pub fn cut_core(
     path: &mut [u32],
 ) -> Cut
     requires { Ready (record { offsets = offsets.now; starts = starts.now; ids = ids.now; n = n; scores = scores.now }) best.old back.old path.old }
-    ensures { Answers (record { offsets = offsets.entry.now; starts = starts.now; ids = ids.now; n = n; scores = scores.now }) best.old back.old path.old path.new result }
+    ensures { Answers (record { offsets = offsets.now; starts = starts.now; ids = ids.now; n = n; scores = scores.now }) best.old back.old path.old path.new result }
 {
     let cutting = viterbi_core(offsets, starts, ids, scores, best, back, path, n);
     let found = cutting.best;
@@ -111,7 +113,7 @@ fn check_and_cut(
     back: &mut [u32],
     path: &mut [u32],
 ) -> Cut
-    ensures { Answers (record { offsets = offsets.entry.now; starts = starts.now; ids = ids.now; n = n; scores = scores.now }) best.old back.old path.old path.new result }
+    ensures { Answers (record { offsets = offsets.now; starts = starts.now; ids = ids.now; n = n; scores = scores.now }) best.old back.old path.old path.new result }
 {
     let room = rooms(n, best, back);
     match check(offsets, starts, ids, n, scores, room) {
@@ -136,7 +138,7 @@ pub fn viterbi(
     back: &mut [u32],
     path: &mut [u32],
 ) -> Cut
-    ensures answers { Answers (record { offsets = offsets.entry.now; starts = starts.now; ids = ids.now; n = n; scores = scores.now }) best.old back.old path.old path.new result }
+    ensures answers { Answers (record { offsets = offsets.now; starts = starts.now; ids = ids.now; n = n; scores = scores.now }) best.old back.old path.old path.new result }
     ensures best_after { (best.new ≡ zero_floats (length best.old)) × (back.new ≡ zeros (length back.old)) }
 {
     let answer = check_and_cut(offsets, starts, ids, n, scores, best, back, path);
@@ -162,7 +164,7 @@ pub fn viterbi_short(
     best: &mut [f64],
     back: &mut [u32],
 ) -> ShortCut
-    ensures answers { Answers (record { offsets = offsets.entry.now; starts = starts.now; ids = ids.now; n = n; scores = scores.now }) best.old back.old (zeros 32) result.ids result.cut }
+    ensures answers { Answers (record { offsets = offsets.now; starts = starts.now; ids = ids.now; n = n; scores = scores.now }) best.old back.old (zeros 32) result.ids result.cut }
     ensures best_after { (best.new ≡ zero_floats (length best.old)) × (back.new ≡ zeros (length back.old)) }
 {
     let mut path = [0u32; 32];
@@ -180,7 +182,7 @@ fn check_and_exclude(
     excluded: u32,
     best: &mut [f64],
 ) -> Excluded
-    ensures { Excludes (record { offsets = offsets.entry.now; starts = starts.now; ids = ids.now; n = n; scores = scores.now }) excluded best.old result }
+    ensures { Excludes (record { offsets = offsets.now; starts = starts.now; ids = ids.now; n = n; scores = scores.now }) excluded best.old result }
 {
     let room = n < best.len();
     match check(offsets, starts, ids, n, scores, room) {
@@ -201,7 +203,7 @@ pub fn viterbi_excluding(
     excluded: u32,
     best: &mut [f64],
 ) -> Excluded
-    ensures excludes { Excludes (record { offsets = offsets.entry.now; starts = starts.now; ids = ids.now; n = n; scores = scores.now }) excluded best.old result }
+    ensures excludes { Excludes (record { offsets = offsets.now; starts = starts.now; ids = ids.now; n = n; scores = scores.now }) excluded best.old result }
     ensures best_after { best.new ≡ zero_floats (length best.old) }
 {
     let answer = check_and_exclude(offsets, starts, ids, n, scores, excluded, best);
@@ -289,7 +291,7 @@ fn check_and_sum(
     beta: &mut [f64],
     emitted: &mut [f64],
 ) -> Expected
-    ensures { Expects (record { offsets = offsets.entry.now; starts = starts.now; ids = ids.now; n = n; scores = scores.now }) alpha.old beta.old emitted.old emitted.new result }
+    ensures { Expects (record { offsets = offsets.now; starts = starts.now; ids = ids.now; n = n; scores = scores.now }) alpha.old beta.old emitted.old emitted.new result }
 {
     let room = sum_rooms(n, starts.len(), alpha, beta, emitted);
     match check(offsets, starts, ids, n, scores, room) {
@@ -311,7 +313,7 @@ pub fn expectations(
     beta: &mut [f64],
     emitted: &mut [f64],
 ) -> Expected
-    ensures expects { Expects (record { offsets = offsets.entry.now; starts = starts.now; ids = ids.now; n = n; scores = scores.now }) alpha.old beta.old emitted.old emitted.new result }
+    ensures expects { Expects (record { offsets = offsets.now; starts = starts.now; ids = ids.now; n = n; scores = scores.now }) alpha.old beta.old emitted.old emitted.new result }
     ensures alpha_after { (alpha.new ≡ zero_floats (length alpha.old)) × (beta.new ≡ zero_floats (length beta.old)) }
 {
     let answer = check_and_sum(offsets, starts, ids, n, scores, alpha, beta, emitted);
