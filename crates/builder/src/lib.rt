@@ -6,6 +6,8 @@
 // its edges, n + 2 of them, and its span says where both stand. Words follow each other from slot 0.
 //
 // `count_words` counts what `build_words` will put, since nothing may be written where there is no room for all.
+#![tactic(auto)]
+
 ghost use Rattle.std.specs.Prelude.{◌≡◌, [], ◌∷◌, ◌-◌, ◌*◌, ◌≤◌, length};
 ghost use Rattle.std.proofs.lemmas.List.Edits.{sets};
 ghost use Rattle.lattice.specs.Lattice.{edge};
