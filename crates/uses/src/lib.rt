@@ -4,6 +4,8 @@
 // characters or no connection before it asks for the best cut. Those have no piece on it, or no cut at all, so they add nothing
 // here either: proofs/Theorems.antt says so, and a pass over the edges is saved. The work slices of a best cut are local arrays,
 // made once: a word has at most 255 characters.
+#![tactic(auto)]
+
 ghost use Rattle.std.specs.Prelude.{◌≡◌, List, length, slice_index};
 ghost use Rattle.lattice.specs.Lattice.{Edge};
 ghost use Rattle.cached.specs.Cached.{span_at};
