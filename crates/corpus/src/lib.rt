@@ -7,6 +7,8 @@
 //
 // W is exact, though one product alone can take 72 bits: the sum stops one above its bound, and no two weights above that are
 // told apart.
+#![tactic(auto)]
+
 ghost use Rattle.std.specs.Prelude.{◌≡◌, ◌+◌, ◌*◌, ◌≤◌, ◌<◌, min, length, get_or};
 ghost use Rattle.laws.specs.Tests.{Says};
 ghost use Rattle.utf8.specs.Chars.{measured};
