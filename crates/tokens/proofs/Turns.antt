@@ -1,20 +1,19 @@
 -- The loop that puts the spans of a list, one after the other. Assumes nothing.
 use mathlib.Core.Path.{◌≡◌, refl, sym, ap, ap₂, ◌∙◌, subst}
-use mathlib.Core.List.{List, [], ◌∷◌, ◌++◌}
+use mathlib.Core.List.{List}
 use Prim.Native.Nat.{ℕ, ◌+◌, ◌-◌, ◌*◌, ◌≤◌, ◌<◌}
 use native.Mathlib.Numerals.{add-one}
 use native.Mathlib.Omega.{arith}
-use lib.ListN.{length, take, drop, set, length-append}
-use lib.Seq.{sets, length-sets}
+use lib.ListN.{length, take, drop}
+use lib.Seq.{length-sets}
 use Rattle.spans.specs.Spans.{many, from, bytes, octets, first}
 use Rattle.positions.specs.Gathered.{bytes_before}
 use Rattle.positions.proofs.Rows.{bytes_before_lem}
 use Rattle.lattice.specs.Layout.{joined}
-use Rattle.lattice.proofs.Fronts.{sets_append}
 use Rattle.copied.specs.Put.{spans_from, Puts, PutsAll}
 use Rattle.copied.proofs.Puts.{puts_more}
 use Rattle.tokens.specs.Steps.{Putting, PuttingAll}
-use Rattle.tokens.proofs.Lists.{octets_long, first_long, joined_long}
+use Rattle.tokens.proofs.Lists.{first_long, joined_long}
 
 -- ---- one token: its bytes are a part of the text
 module _ {text spans out tokens : List ℕ} {k slot at : ℕ} (p : Putting text spans k out tokens slot at) {low long : ℕ} (l : low ≡ from spans k) (b : long ≡ bytes spans k) where

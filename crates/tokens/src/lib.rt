@@ -8,6 +8,8 @@
 //
 // Specials and pieces are spans (crate `spans`), checked before: at most 256 and 1,048,576 of them with at most 255 bytes each,
 // so all bytes together are fewer than 2^28, and a number of 32 bits holds where a token begins.
+#![tactic(auto)]
+
 ghost use Rattle.std.specs.Prelude.{◌≡◌, false, ◌+◌, ◌≤◌, length, replicate, pos};
 ghost use Rattle.std.specs.Float.{fin};
 ghost use Rattle.std.proofs.lemmas.List.Edits.{sets};
