@@ -21,6 +21,7 @@ in_join z (x ∷ a) b (inr i) = ⊎_elim (λ j. inl (inr j)) (λ j. inr j) (in_j
 pub in_left : {A : Type 0} (z : A) (a b : List A) → In z a → In z (a ++ b)
 in_left z (x ∷ a) b (inl e) = inl e
 in_left z (x ∷ a) b (inr i) = inr (in_left z a b i)
+in_left z [] b i = absurd i
 
 pub in_right : {A : Type 0} (z : A) (a b : List A) → In z b → In z (a ++ b)
 in_right z [] b i = i
@@ -38,10 +39,12 @@ sorted_join R (x ∷ a) b s t f = (
 pub of_map : {A B : Type 0} (f : A → B) (y : B) (l : List A) → In y (map f l) → (a : A) × (In a l × (y ≡ f a))
 of_map f y (x ∷ l) (inl e) = (x, (inl refl, e))
 of_map f y (x ∷ l) (inr i) = let h = of_map f y l i in (h.0, (inr h.1.0, h.1.1))
+of_map f y [] i = absurd i
 
 pub to_map : {A B : Type 0} (f : A → B) (a : A) (l : List A) → In a l → In (f a) (map f l)
 to_map f a (x ∷ l) (inl e) = inl (ap f e)
 to_map f a (x ∷ l) (inr i) = inr (to_map f a l i)
+to_map f a [] i = absurd i
 
 pub sorted_map : {A B : Type 0} (R : B → B → Type 0) (f : A → B) (l : List A) → Sorted (λ a b. R (f a) (f b)) l
     → Sorted R (map f l)
@@ -89,6 +92,7 @@ map_cut f n xs ys = map_join f xs (take n ys) ∙ ap (λ l. map f xs ++ l) (map_
 pub in_span : (n m k : ℕ) → In n (span m k) → (m ≤ n) × (n < m + k)
 in_span n m (suc k) (inl e) = (omega arith, omega arith)
 in_span n m (suc k) (inr i) = let h = in_span n (suc m) k i in (omega arith, omega arith)
+in_span n m zero i = absurd i
 
 pub span_in : (n m k : ℕ) → m ≤ n → n < m + k → In n (span m k)
 span_in n m zero h g = absurd (omega arith)

@@ -1,3 +1,5 @@
+#![tactic(auto)]
+
 // What the seed list is, and why the way of counting gives it: document 01, port order 8.
 //
 // There is no code here. specs/Corpus, Ranked and Seed say document 01's words over plain lists: how often a string stands in
