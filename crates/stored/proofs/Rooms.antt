@@ -1,19 +1,18 @@
 -- Whether there is room for a text, and what is stored then. Assumes nothing.
-use mathlib.Core.Path.{◌≡◌, refl, sym, ap, ap₂, ◌∙◌, subst}
-use mathlib.Core.Bool.{Bool, true, false, cond, not, ◌&&◌}
-use mathlib.Core.List.{List, [], ◌∷◌}
-use Prim.Native.Nat.{ℕ, ◌+◌, ◌-◌, ◌*◌, ◌/◌, ◌≤◌, ◌<◌}
+use mathlib.Core.Path.{◌≡◌, refl, sym, ap, ◌∙◌, subst}
+use mathlib.Core.Bool.{Bool, true, false, not, ◌&&◌}
+use mathlib.Core.List.{List}
+use Prim.Native.Nat.{ℕ, ◌+◌, ◌-◌, ◌/◌, ◌≤◌, ◌<◌}
 use native.Mathlib.Omega.{arith}
 use lib.Dec.{leb, ltb}
 use lib.ListN.{length, take, drop, set, length-drop}
-use lib.Seq.{sets, length-take-le}
+use lib.Seq.{length-take-le}
 use borrow.Author.Tests.{le-leb, lt-leb, leb-true, leb-false, ltb-true}
 use Rattle.settings.specs.declared.Settings.{Settings}
 use Rattle.frames.specs.declared.input.Frame.{Frame}
 use Rattle.frames.specs.declared.input.Frame.TheVariants.{Settings as First, Special, Word, Count, Bad}
 use Rattle.copied.specs.Put.{Putting, Puts}
 use Rattle.stored.specs.Stored.{Texts, Tables, texts, part, fits, behind, has_room, with_settings, with_special, with_word, store_of}
-use Rattle.stored.specs.declared.Run.{Run}
 
 -- so many from an index on, where the index is among them
 pub within_in : (from long size : ℕ) → from ≤ size → leb long (size - from) ≡ leb (from + long) size

@@ -3,6 +3,8 @@
 // Document 01: "room for 256 words, 8,192 word bytes", and NoRoom 5 is "the program's word room". So a word without room is
 // remembered, and none after it is stored. A special without room is passed over: whoever lends room for one special more than
 // settings allow is told by their check that there are too many.
+#![tactic(auto)]
+
 ghost use Rattle.std.specs.Prelude.{◌≡◌, true, List, ℕ, ◌+◌, leb};
 ghost use Rattle.stored.specs.Stored.{texts as texts_of, tables, part, fits, behind, nothing, has_room, with_settings, with_special, with_word, store_of};
 
