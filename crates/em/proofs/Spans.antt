@@ -6,7 +6,7 @@ use lib.Seq.{slice, split_at}
 use lib.Ieee.{Float, fin, of_bits}
 use Rattle.math.specs.Steps.{zero as nought}
 use Rattle.lattice.specs.Lattice.{Edge}
-use Rattle.lattice.specs.Layout.{joined, offsets, edge_count, char_count, spans_from, flat}
+use Rattle.lattice.specs.Layout.{joined, offsets, edge_count, char_count, spans_from}
 use Rattle.lattice.proofs.Flat.{edges, ends, edges_append, ends_append, spans_append, spans_long}
 use Rattle.lattice.proofs.Joined.{offsets_long}
 use Rattle.formed.specs.declared.Span.{Span}

@@ -5,6 +5,8 @@
 // each score then is the logarithm of its piece's part of the total. The entry of an edge that emits nothing is +0, and adding it
 // changes no bit. The work slices of a word's sums are local arrays, made once a pass: a word has at most 255 characters and 32
 // edges to each.
+#![tactic(auto)]
+
 ghost use Rattle.std.specs.Prelude.{◌≡◌, ◌≤◌, max, List, map, length, slice_index};
 ghost use Rattle.lattice.specs.Lattice.{Edge};
 ghost use Rattle.formed.specs.Word.{WordFormed};
