@@ -1,11 +1,11 @@
 -- What lines say is what is stored: the words, if they have room, and the specials. Assumes nothing.
 use mathlib.Core.Path.{◌≡◌, refl, sym, ap, ap₂, ◌∙◌, subst}
-use mathlib.Core.Bool.{Bool, true, false, cond, not, ◌&&◌}
+use mathlib.Core.Bool.{Bool, true, false, cond}
 use mathlib.Core.List.{List, [], ◌∷◌, ◌++◌, append_assoc, append-nil}
-use Prim.Native.Nat.{ℕ, ◌+◌, ◌*◌, ◌/◌, ◌≤◌, ◌<◌}
+use Prim.Native.Nat.{ℕ, ◌+◌, ◌*◌, ◌/◌, ◌≤◌}
 use native.Mathlib.Nat.{zero-add}
 use native.Mathlib.Omega.{arith}
-use lib.Dec.{leb, ltb, eqb}
+use lib.Dec.{eqb}
 use lib.ListN.{length, take, drop, set, length-append, length-drop}
 use lib.Seq.{sets, length-sets, length-take-le, take_at}
 use borrow.Author.Tests.{le-leb, lt-ltb, eqb-true}
@@ -13,14 +13,14 @@ use Rattle.laws.proofs.Choices.{yes, no, cond_cases}
 use Rattle.lattice.specs.Layout.{joined}
 use Rattle.lattice.proofs.Joined.{joined_append}
 use Rattle.lattice.proofs.Fronts.{sets_append}
-use Rattle.copied.specs.Put.{spans_from, Puts, PutsAll}
+use Rattle.copied.specs.Put.{spans_from}
 use Rattle.copied.proofs.Puts.{spans_long, puts_more}
 use Rattle.copied.proofs.Stores.{sets_over}
 use Rattle.frames.specs.Frames.{byte, number_at, seed_fits, settings_of, settings_frame, special_frame, word_frame, count_frame, frame_of}
 use Rattle.frames.specs.declared.input.Frame.{Frame}
 use Rattle.frames.specs.declared.input.Frame.TheVariants.{Settings as First, Special, Word, Count, Bad}
 use Rattle.stored.specs.Stored.{Texts, Tables, texts, tables, nothing, part, fits, behind, has_room, with_special, with_word, store_of}
-use Rattle.stored.proofs.Rooms.{Fits, fitting, part_long, room_fits, room_whole}
+use Rattle.stored.proofs.Rooms.{fitting, part_long, room_fits, room_whole}
 use Rattle.lines.specs.Lines.{line_bytes, line_frame}
 use Rattle.lines.specs.Said.{word_of, frequency_of, special_of, words_in, frequencies_in, specials_in, Room, Stand, WordRoom, Words}
 use Rattle.lines.proofs.Theorems.{stored_by}

@@ -1,5 +1,5 @@
 -- The input, byte by byte: document 01, "one frame a line, .. each line ended by 0a". Definitions only.
-use Rattle.std.specs.Prelude.{ℕ, ◌+◌, ◌≤◌, ◌≡◌, cond, List, [], ◌∷◌, ◌++◌, eqb, ltb, length, take}
+use Rattle.std.specs.Prelude.{ℕ, ◌≤◌, ◌≡◌, cond, List, [], ◌∷◌, ◌++◌, eqb, ltb, length, take}
 use Rattle.frames.specs.Bytes.{bytes_of, decodes}
 use Rattle.frames.specs.Frames.{frame_of}
 use Rattle.frames.specs.Sequence.{begun_of, step_of}

@@ -3,6 +3,8 @@
 // The bytes come in chunks of any size, and a line is gathered in a buffer of 531, one more than the longest frame has digits. A
 // longer line fills it, and since that is an odd number of digits it is no frame. What a frame says is stored at the line's end,
 // whether or not the frame stands in order; only an input that is in order is trained on.
+#![tactic(auto)]
+
 ghost use Rattle.std.specs.Prelude.{◌≡◌, List, ℕ, ◌≤◌, length, take};
 ghost use Rattle.lines.specs.Lines.{line_bytes, begun_at, Held, stream_of, end_line, feed, feed_all, last_of};
 
