@@ -14,7 +14,7 @@ use Rattle.laws.proofs.Tests.{said_yes, said_no}
 use Rattle.laws.proofs.Choices.{cond_cases}
 use Rattle.refusal.specs.declared.Refusal.{Refusal}
 use Rattle.refusal.specs.declared.Refusal.TheVariants.{NoRoom}
-use Rattle.spans.specs.Spans.{many, chars_at, first, listed}
+use Rattle.spans.specs.Spans.{many, chars_at, first}
 use Rattle.spans.specs.Check.{AllGood}
 use Rattle.lattice.specs.Lattice.{Edge, lattice, cache}
 use Rattle.lattice.specs.Layout.{flat}

@@ -3,6 +3,8 @@
 // "A refusal changes no result slice", so it is known that there is room before any lattice is written. Where as many edges are
 // lent as words of so many bytes can have at most, that is a sum over the words; else the edges are counted, which takes a walk
 // of every word. The lattices are then laid out one behind the other from slot 0, and the slots behind them are cleared.
+#![tactic(auto)]
+
 ghost use Rattle.std.specs.Prelude.{◌≡◌, ◌≤◌};
 ghost use Rattle.laws.specs.Tests.{Says};
 ghost use Rattle.spans.specs.Spans.{many};
@@ -104,7 +106,7 @@ fn ample(
     setting: usize,
 ) -> bool
     requires { Short words.now × (setting ≤ 32) }
-    ensures { Says result (Ample words.now setting (record { offsets = offsets.entry.now; starts = starts.now; ids = ids.now; spans = spans.now })) }
+    ensures { Says result (Ample words.now setting (record { offsets = offsets.now; starts = starts.now; ids = ids.now; spans = spans.now })) }
 {
     let many = spans::count(words);
     let bytes = all_bytes(words);
@@ -134,7 +136,7 @@ fn enough(
     spans: &[u32],
 ) -> bool
     requires { WalkRoom keys.now ends.now setting chars.old grid.old × Listed text.now words.now }
-    ensures { Enough keys.now ends.now text.now words.now setting (record { offsets = offsets.entry.now; starts = starts.now; ids = ids.now; spans = spans.now }) result }
+    ensures { Enough keys.now ends.now text.now words.now setting (record { offsets = offsets.now; starts = starts.now; ids = ids.now; spans = spans.now }) result }
 {
     if ample(offsets, starts, ids, spans, words, setting) {
         return true;
@@ -164,7 +166,7 @@ pub fn lay(
     spans: &mut [u32],
 ) -> Built
     requires { Laying keys.now ends.now text.now words.now setting }
-    ensures { Lays keys.now ends.now text.now words.now setting (record { offsets = offsets.entry.now; starts = starts.old; ids = ids.old; spans = spans.old }) (record { offsets = offsets.exit.now; starts = starts.new; ids = ids.new; spans = spans.new }) result }
+    ensures { Lays keys.now ends.now text.now words.now setting (record { offsets = offsets.old; starts = starts.old; ids = ids.old; spans = spans.old }) (record { offsets = offsets.new; starts = starts.new; ids = ids.new; spans = spans.new }) result }
 {
     let mut chars = [0u32; 255];
     let mut grid = [0u32; 8160];
@@ -210,7 +212,7 @@ pub fn index_and_lay(
     ends: &mut [u32],
 ) -> Built
     requires { InOrder (record { setting = setting; text = text.now; words = words.now; spellings = spellings.now; pieces = pieces.now }) keys.old ends.old }
-    ensures { Follows (record { setting = setting; text = text.now; words = words.now; spellings = spellings.now; pieces = pieces.now }) (record { offsets = offsets.entry.now; starts = starts.old; ids = ids.old; spans = spans.old }) keys.old ends.old (record { offsets = offsets.exit.now; starts = starts.new; ids = ids.new; spans = spans.new }) result }
+    ensures { Follows (record { setting = setting; text = text.now; words = words.now; spellings = spellings.now; pieces = pieces.now }) (record { offsets = offsets.old; starts = starts.old; ids = ids.old; spans = spans.old }) keys.old ends.old (record { offsets = offsets.new; starts = starts.new; ids = ids.new; spans = spans.new }) result }
 {
     let places = smaller(smaller(keys.len(), ends.len()), 4294967295);
     match index_front(keys, ends, places, spellings, pieces) {
