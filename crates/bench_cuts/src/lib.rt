@@ -3,6 +3,8 @@
 // Training calls the cores on lattices that it has built, with work slices lent once for all words: nothing is checked and
 // nothing cleared a word. To measure that, a caller has to keep what the cores require. So these are no part of the library
 // that others link, and include/causeylark.h does not declare them.
+#![tactic(auto)]
+
 ghost use Rattle.std.specs.Prelude.{◌≡◌, ◌++◌, ◌≤◌, ◌<◌, length, drop};
 ghost use Rattle.scores.specs.Table.{best as greatest};
 ghost use Rattle.scores.specs.Floats.{f64s};
