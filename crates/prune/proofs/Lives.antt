@@ -133,6 +133,7 @@ in_among (i ∷ l) id e =
     later : (b : Bool) → among l id ≡ true → b || among l id ≡ true
     later true q = refl
     later false q = q
+in_among [] id e = elim e [ ]
 
 not_among : (l : List ℕ) (id : ℕ) → (In id l → ⊥) → among l id ≡ false
 not_among l id f = go (among l id) refl

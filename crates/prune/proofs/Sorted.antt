@@ -9,6 +9,7 @@ use Rattle.order.specs.Sort.{In, Sorted}
 -- ---- what is in a list of two parts
 pub in_left : (x : ℕ) (a b : List ℕ) → In x a → In x (a ++ b)
 in_left x (y ∷ a) b i = ⊎_elim (λ e. inl e) (λ j. inr (in_left x a b j)) i
+in_left x [] b i = elim i [ ]
 
 pub in_right : (x : ℕ) (a b : List ℕ) → In x b → In x (a ++ b)
 in_right x [] b i = i
@@ -42,6 +43,7 @@ module _ (R : ℕ → ℕ → Type 0) where
   across : (x y : ℕ) (a b : List ℕ) → Sorted R (a ++ b) → In x a → In y b → R x y
   across x y (z ∷ a) b s i j = ⊎_elim (λ e. subst (λ (w : ℕ). R w y) (sym e) (s.0 y (in_right y a b j)))
       (λ k. across x y a b s.1 k j) i
+  across x y [] b s i j = elim i [ ]
 
   -- one in the front, and one behind it
   pub sorted_across : (n x y : ℕ) (l : List ℕ) → Sorted R l → In x (take n l) → In y (drop n l) → R x y

@@ -6,6 +6,8 @@
 // first, in their own slice. The remap's slice is the sort's second buffer before it holds the remap. All slices are cut to
 // the pieces there are. Pieces and scores close up in place afterwards: what moves, moves down or stays, so what is written
 // over has been read.
+#![tactic(auto)]
+
 ghost use Rattle.std.specs.Prelude.{◌≡◌, cond, map, ◌+◌, ◌*◌, ◌≤◌, ◌<◌, eqb, length, get_or, set, replicate};
 ghost use Rattle.std.specs.Float.{nan};
 ghost use Rattle.lattice.specs.Pruning.{gone};
