@@ -1,20 +1,15 @@
 -- Where pieces of gathered positions end, and what they spell. Assumes nothing.
-use Rattle.std.proofs.Common.{◌≡◌, ℕ, zero, suc, ◌+◌, ◌-◌, ◌*◌, ◌/◌, ◌<◌, ◌≤◌, Bool, true, false, cond, ◌&&◌, eqb, ltb, List, [], ◌∷◌, ◌++◌, map, length, get_or, take, drop, sym, refl, ap, ◌∙◌, subst, ap₂, arith, take-take, ltb-false, ltb-true, lt-ltb, eq-eqb, eqb-true}
+use Rattle.std.proofs.Common.{◌≡◌, ℕ, ◌+◌, ◌<◌, ◌≤◌, Bool, true, false, cond, ◌&&◌, eqb, ltb, List, length, take, drop, sym, refl, ap, ◌∙◌, subst, arith, take-take, ltb-false, ltb-true, eqb-true}
 use native.Mathlib.Decide.{dec_lt}
-use lib.ListN.{length-map}
 use borrow.Author.Tests.{eqb-false}
 use Rattle.utf8.specs.Encode.{spelling}
-use Rattle.spans.specs.Spans.{many, from, bytes, chars_at, first, listed}
-use Rattle.spans.specs.Check.{Good, AllGood}
+use Rattle.spans.specs.Spans.{many, from, bytes, chars_at}
+use Rattle.spans.specs.Check.{AllGood}
 use Rattle.positions.specs.Positions.{at, left, word, text_at}
 use Rattle.positions.specs.Gathered.{begin, Place, Gathered}
 use Rattle.positions.proofs.Rows.{Of, begin_before}
-use Rattle.positions.proofs.Theorems.{of_word, text_is, ends_inside, ends_last, part}
-use Rattle.ranking.specs.Counting.{Entry, span, entry_at, spelt, texts}
-use Rattle.ranking.specs.Slots.{packed}
-use Rattle.ranking.proofs.Lists.{by_number, span_join, map_join}
-use Rattle.ranking.proofs.Slots.{length_packed, packed_position, packed_size}
-use Rattle.listed.specs.Spelled.{end_of, position_of, length_of, Ending, Cutting, Spelling, Spelled}
+use Rattle.positions.proofs.Theorems.{of_word, text_is, ends_inside, ends_last}
+use Rattle.listed.specs.Spelled.{end_of}
 
 module _ {text words : List ℕ} {reach : ℕ} {chars places : List ℕ} {n : ℕ} (g : Gathered text words reach (many words) chars places n)
   where

@@ -1,7 +1,6 @@
 -- How far the scores are written. Assumes nothing.
-use Rattle.std.proofs.Common.{◌≡◌, ℕ, ◌+◌, ◌<◌, ◌≤◌, List, ◌++◌, map, length, get_or, drop, set, sym, ap, ◌∙◌, ap₂, arith}
+use Rattle.std.proofs.Common.{◌≡◌, ℕ, ◌+◌, ◌<◌, ◌≤◌, List, ◌++◌, map, length, get_or, drop, set, ap, ◌∙◌, ap₂, arith}
 use lib.Ieee.{Float, nan}
-use Rattle.ranking.specs.Counting.{span}
 use Rattle.ranking.specs.Scores.{seed_total, seed_score, seed_scores}
 use Rattle.ranks.proofs.Made.{Made, made_none, made_more, along}
 

@@ -1,11 +1,11 @@
 -- How far the loops have come. Assumes nothing.
-use Rattle.std.proofs.Common.{◌≡◌, ℕ, suc, ◌+◌, ◌-◌, ◌*◌, ◌/◌, ◌<◌, ◌≤◌, Bool, true, false, cond, ◌&&◌, eqb, ltb, List, [], ◌∷◌, ◌++◌, length, get_or, take, set, sym, refl, ap, ◌∙◌, subst, ap₂, add-one, arith, length-set, take_all, get_or-set_other, take-suc, get_or-set_same, le-ltb, lt-ltb, eq-eqb, ne_eqb}
+use Rattle.std.proofs.Common.{◌≡◌, ℕ, ◌+◌, ◌-◌, ◌*◌, ◌<◌, ◌≤◌, List, length, get_or, take, set, sym, refl, ap, ◌∙◌, subst, ap₂, add-one, arith, length-set, take_all, get_or-set_other, take-suc, get_or-set_same, le-ltb, lt-ltb, eq-eqb, ne_eqb}
 use native.Mathlib.Decide.{dec_lt}
 use lib.Ieee.{Float}
 use Rattle.positions.specs.Positions.{at, word}
 use Rattle.spans.specs.Spans.{many, from, bytes}
 use Rattle.math.specs.Steps.{◌⊕◌, zero}
-use Rattle.ranking.specs.Scores.{float, sum_from, seed_total}
+use Rattle.ranking.specs.Scores.{float, seed_total}
 use Rattle.ranking.proofs.Scores.{sum_more}
 use Rattle.listed.specs.Spelled.{end_of, position_of, length_of, Ending, Cutting, Spelling, Cut, Spelled}
 

@@ -4,6 +4,8 @@
 // A piece is found as a position and a length in characters. Its bytes begin where the position's character does, and end
 // where the position after its last character does, if that is one of the same word; else where the word ends. So no
 // character is decoded again, and no piece goes on into the next word.
+#![tactic(auto)]
+
 ghost use Rattle.std.specs.Prelude.{◌≡◌, ◌+◌, ◌-◌, ◌<◌, ◌≤◌, ◌++◌, length, drop};
 ghost use Rattle.positions.specs.Positions.{at};
 ghost use Rattle.ranking.specs.Scores.{seed_total, seed_score, seed_scores};
