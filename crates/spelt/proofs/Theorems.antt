@@ -66,21 +66,25 @@ module _ (setting : ℕ) {pieces : List (List ℕ)} (distinct : Distinct pieces)
       ∙ joined_append (map piece (spell ids_of ks)) (piece (get_or ids_of k 0) ∷ [])
       ∙ ap (λ (l : List ℕ). characters (spell ids_of ks) ++ l) (append-nil (piece (get_or ids_of k 0)))
 
-  -- a cut of the first p characters spells them
-  pub spells_front : (ks : List ℕ) (p : ℕ) → p ≤ length word → Cut built p ks → characters (spell ids_of ks) ≡ take p word
-  spells_front [] p h e = sym (ap (λ (q : ℕ). take q word) e)
-  spells_front (k ∷ ks) p h (ends, rest) =
+  -- a cut of the first p characters spells them, by its edges from the last
+  front : (ks : List ℕ) (p : ℕ) → p ≤ length word → Cut built p ks → characters (spell ids_of ks) ≡ take p word
+  front [] p h e = sym (ap (λ (q : ℕ). take q word) e)
+  front (k ∷ ks) p h (ends, rest) =
       let (l, s) = stands p k h ends.0 ends.1 in
       let start = get_or starts_of k 0 in
       let z : start + (p - start) ≡ p = omega arith in
       one_more k ks
-      ∙ ap₂ (λ (a b : List ℕ). a ++ b) (spells_front ks start (omega arith) rest) s.spells
+      ∙ ap₂ (λ (a b : List ℕ). a ++ b) (front ks start (omega arith) rest) s.spells
       ∙ sym (take-add start (p - start) word)
       ∙ ap (λ (q : ℕ). take q word) z
 
+  -- a cut of the first p characters spells them
+  pub spells_front : (ks : List ℕ) (p : ℕ) → p ≤ length word → Cut built p ks → characters (spell ids_of ks) ≡ take p word
+  spells_front ks p h c = front ks p h c
+
   -- "its pieces spell the word": so of the best cut, and of every other
   pub spells_word : (ks : List ℕ) → Cut built (length word) ks → characters (spell ids_of ks) ≡ word
-  spells_word ks c = spells_front ks (length word) (omega arith) c ∙ take-length word
+  spells_word ks c = front ks (length word) (omega arith) c ∙ take-length word
 
   -- ---- and so the ids that a best cut leaves: the first `count` are pieces that spell the word
   pub found_spells : {path path' : List ℕ} {score : Float} {count : ℕ} → Found built ids_of (length word) path path' score count → characters (take count path') ≡ word
