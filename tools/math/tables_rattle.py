@@ -24,9 +24,10 @@ def source(contents):
         "//",
         "// A crate of its own, so that a change to the steps over the tables does not prove them again.",
         f"// {HEAD}",
-        "ghost use mathlib.Core.Path.{_≡_};",
-        "ghost use Prim.Native.Nat.{_<_};",
-        "ghost use Rattle·tables·specs.specs.Tables.{entry, %s};"
+        "#![tactic(auto)]",
+        "",
+        "ghost use Rattle.std.specs.Prelude.{◌≡◌, ◌<◌};",
+        "ghost use Rattle.tables.specs.Tables.{entry, %s};"
         % ", ".join(name + "s" for name, _, _ in contents),
     ]
     for name, formula, entries in contents:
@@ -34,8 +35,8 @@ def source(contents):
             "",
             f"// {formula}",
             f"pub fn {name}(j: u32) -> f64",
-            "    requires { ⌜ j < %d ⌝ }" % len(entries),
-            "    ensures { λ r. ⌜ r ≡ entry %ss j ⌝ }" % name,
+            "    requires { j < %d }" % len(entries),
+            "    ensures { result ≡ entry %ss j }" % name,
             "{",
             "    match j {",
         ]
@@ -49,14 +50,13 @@ def definition(contents):
     lines = [
         "-- The tables of docs/MATH.md, by bit patterns. Definitions only.",
         f"-- {HEAD}",
-        "use Prim.Native.Nat.{ℕ}",
-        "use mathlib.Core.List.{List, [], _∷_}",
-        "use lib.ListN.{getD}",
-        "use lib.Ieee.{Float, binary64, ofBits}",
+        "use Rattle.std.specs.Prelude.{ℕ, List, [], ◌∷◌, get_or, Float}",
+        "use Rattle.std.specs.Float.{binary64}",
+        "use Rattle.std.specs.Float.Ieee.{of_bits}",
         "",
         "-- the float at a place of a table",
         "abbrev pub entry : List ℕ → ℕ → Float",
-        "entry table j = ofBits binary64 (getD table j 0)",
+        "entry table j = of_bits binary64 (get_or table j 0)",
     ]
     for name, formula, entries in contents:
         lines += ["", f"-- {formula}", f"abbrev pub {name}s : List ℕ", f"{name}s ="]
@@ -66,33 +66,26 @@ def definition(contents):
 
 
 def proof(name, entries):
-    """proofs/NAME/Proof.antt: each arm gives the entry at its number."""
+    """proofs/NAME/Answers.antt: each arm gives the entry at its number."""
     last = len(entries) - 1
-    needs = ["returns" if j == 0 else f"returns-{j + 1}" for j in range(len(entries))]
     lines = [
         f"-- `tables::{name}` meets its contract. {HEAD}",
         "-- Assumes nothing.",
-        "use mathlib.Core.Path.{_≡_, sym, ap}",
+        "use mathlib.Core.Path.{◌≡◌, sym, ap}",
         "use Prim.Native.Nat.{ℕ}",
-        f"use Rattle·tables·specs.specs.Tables.{{entry, {name}s}}",
-        "use Rattle·tables·proofs.proofs.Arms.{last}",
-        f"use Rattle·tables·proofs.proofs.{name}.Statement.{{statement}}",
-        f"use Rattle·tables·proofs.proofs.{name}.Tie as tie",
+        f"use Rattle.tables.specs.Tables.{{entry, {name}s}}",
+        "use Rattle.tables.proofs.Arms.{last}",
+        f"use Rattle.tables.proofs.{name}.Goals as goal",
         "",
         f"at : (j k : ℕ) → j ≡ k → entry {name}s k ≡ entry {name}s j",
         f"at j k e = ap (λ (n : ℕ). entry {name}s n) (sym e)",
     ]
-    for j, need in enumerate(needs):
-        here = "c .before .args .j"
-        equal = f"c .match .keys{j + 1}"
+    for j in range(len(entries)):
+        here, arm = "c.args.j", f"returns-in-{j}"
+        equal = f"c.in-{j}.is"
         if j == last:
-            equal = f"sym (last {last} ({here}) (c .match .rest) (c .before .pre))"
-        lines += ["", f"{need} : tie.Need-{need}", f"{need} c = at ({here}) {j} ({equal})"]
-    lines += [
-        "",
-        f"pub {name}-spec : {{M : Type 1}} → statement M",
-        f"{name}-spec = tie.close (tie.spec {' '.join(needs)})",
-    ]
+            arm, equal = "returns-in_default", f"(sym (last {last} {here} c.in_default.in_default-own.rest c.requires))"
+        lines += ["", f"pub {arm} : goal.{arm}", f"{arm} c = at {here} {j} {equal}"]
     return "\n".join(lines) + "\n"
 
 
@@ -100,4 +93,4 @@ def outputs(contents):
     """(path, text) of each file of the crate."""
     crate = "crates/tables/"
     files = [(crate + "src/lib.rt", source(contents)), (crate + "specs/Tables.antt", definition(contents))]
-    return files + [(f"{crate}proofs/{name}/Proof.antt", proof(name, entries)) for name, _, entries in contents]
+    return files + [(f"{crate}proofs/{name}/Answers.antt", proof(name, entries)) for name, _, entries in contents]
