@@ -128,7 +128,7 @@ module _ (words : ℕ) (remap : List ℕ) (x : Results) where
 
   well : (r : Refusal) → Why x.offsets x.starts x.ids x.spans words remap r → CacheFormed x.starts x.ids x.offsets x.spans (length remap) words → Remap 0 remap → ⊥
   well r (bad_lattice p) formed m = p.bad (formed _ p.within)
-  well r (bad_remap f p) formed m = not_both remap _ m p
+  well r (bad_remap f p) _ m = not_both remap _ m p
 
   pub no_second : {y z : Results} (r s : Retained) → Call words remap x y r → Call words remap x z s → (y ≡ z) × (r ≡ s)
   no_second (Edges a) (Edges b) p q =

@@ -7,6 +7,8 @@
 //
 // `retain` checks, prunes in place and clears. Document 01: "Retain checks 9, 13." A refusal changes no slice. After an
 // accepted call the slices hold the pruned lattices, words following each other from slot 0, and zeros behind.
+#![tactic(auto)]
+
 ghost use Rattle.std.specs.Prelude.{length};
 ghost use Rattle.cached.specs.Cached.{CacheFormed};
 ghost use Rattle.fresh.specs.Build.{Answers, Zeros};
@@ -79,7 +81,7 @@ fn check_and_build(
     ends: &mut [u32],
     table: &mut [u32],
 ) -> Built
-    ensures { Answers (record { setting = setting; text = text.now; words = words.now; spellings = spellings.now; pieces = pieces.now }) (record { offsets = offsets.entry.now; starts = starts.old; ids = ids.old; spans = spans.old }) (record { keys = keys.entry.now; ends = ends.old; table = table.old }) (record { offsets = offsets.exit.now; starts = starts.new; ids = ids.new; spans = spans.new }) result }
+    ensures { Answers (record { setting = setting; text = text.now; words = words.now; spellings = spellings.now; pieces = pieces.now }) (record { offsets = offsets.old; starts = starts.old; ids = ids.old; spans = spans.old }) (record { keys = keys.old; ends = ends.old; table = table.old }) (record { offsets = offsets.new; starts = starts.new; ids = ids.new; spans = spans.new }) result }
 {
     match inputs::check(setting, text, words, spellings, pieces, table) {
         Checked::Refused(refusal) => Built::Refused(refusal),
@@ -104,8 +106,8 @@ pub fn build(
     ends: &mut [u32],
     table: &mut [u32],
 ) -> Built
-    ensures answers { Answers (record { setting = setting; text = text.now; words = words.now; spellings = spellings.now; pieces = pieces.now }) (record { offsets = offsets.entry.now; starts = starts.old; ids = ids.old; spans = spans.old }) (record { keys = keys.entry.now; ends = ends.old; table = table.old }) (record { offsets = offsets.exit.now; starts = starts.new; ids = ids.new; spans = spans.new }) result }
-    ensures zeros { Zeros (record { keys = keys.entry.now; ends = ends.old; table = table.old }) (record { keys = keys.exit.now; ends = ends.new; table = table.new }) }
+    ensures answers { Answers (record { setting = setting; text = text.now; words = words.now; spellings = spellings.now; pieces = pieces.now }) (record { offsets = offsets.old; starts = starts.old; ids = ids.old; spans = spans.old }) (record { keys = keys.old; ends = ends.old; table = table.old }) (record { offsets = offsets.new; starts = starts.new; ids = ids.new; spans = spans.new }) result }
+    ensures zeros { Zeros (record { keys = keys.old; ends = ends.old; table = table.old }) (record { keys = keys.new; ends = ends.new; table = table.new }) }
 {
     let answer = check_and_build(
         setting, text, words, spellings, pieces, offsets, starts, ids, spans, keys, ends, table,
