@@ -1,7 +1,7 @@
 -- What the choices of a loss come to. Assumes nothing.
-use mathlib.Core.Path.{◌≡◌, refl, sym, ap, ◌∙◌}
+use mathlib.Core.Path.{◌≡◌, sym, ap, ◌∙◌}
 use mathlib.Core.Bool.{Bool, true, false, cond}
-use lib.Ieee.{Float, nan, inf, fin, lt, eq}
+use lib.Ieee.{Float, inf, lt, eq}
 use lib.Ieee.Scale.{finite}
 use Rattle.math.specs.Steps.{◌⊖◌, ◌⊗◌, zero as nought}
 use Rattle.losses.specs.Losses.{larger, penalty, loss}

@@ -5,6 +5,8 @@
 // current trie gives. That lattice is built in local arrays, made once: a piece has at most 255 bytes, as a word has.
 //
 // Losses are given by their bits, which order as the losses do: proofs/Theorems.antt.
+#![tactic(auto)]
+
 ghost use Rattle.std.specs.Prelude.{◌≡◌, true, false, ◌<◌, length, get_or};
 ghost use Rattle.std.specs.Float.{nan, inf};
 ghost use Rattle.spans.specs.Spans.{many, chars_at, listed};
