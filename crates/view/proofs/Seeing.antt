@@ -1,5 +1,5 @@
 -- What `located` is in each case, and that what it says is inside the slices. Assumes nothing.
-use mathlib.Core.Path.{◌≡◌, refl, ap, ◌∙◌}
+use mathlib.Core.Path.{◌≡◌, refl, ap, sym, subst, ◌∙◌}
 use mathlib.Core.Bool.{Bool, true, false, cond, ◌&&◌}
 use mathlib.Core.List.{List}
 use Prim.Native.Nat.{ℕ, ◌+◌, ◌*◌, ◌≤◌, ◌<◌}
@@ -58,3 +58,7 @@ module _ (starts ids offsets spans : List ℕ) (index : ℕ) where
   pub within : Within starts ids offsets (located starts ids offsets spans index)
   unfolding located
   within = either (Within starts ids offsets) (present spans index) (λ _. spanned_within (get_or spans (4 * index) 0) (get_or spans (4 * index + 1) 0) (get_or spans (4 * index + 2) 0) (get_or spans (4 * index + 3) 0)) none_within
+
+  -- the same of a word that is found there
+  pub within_at : (word : Located) → word ≡ located starts ids offsets spans index → Within starts ids offsets word
+  within_at word e = subst (Within starts ids offsets) (sym e) within

@@ -5,6 +5,8 @@
 // stand in `starts` and `ids` and where its n + 2 offsets stand in `offsets`, each from the first up to, not with, the last. The
 // view borrows those parts. "`view` of an absent index, or of a span outside its slices, is BadLattice at it, with n 0 and empty
 // slices".
+#![tactic(auto)]
+
 ghost use Rattle.std.specs.Prelude.{◌≡◌, ◌≤◌, length};
 ghost use Rattle.cut.specs.Cut.{Answers, Excludes, zeros, zero_floats};
 ghost use Rattle.cut.specs.Sums.{Connects, Expects};
@@ -56,6 +58,7 @@ fn absent(index: usize) -> Located
 }
 
 // Where the lattice of one word of a cache stands.
+#[tactic(auto, unfolding(crate::specs::Located::located))]
 pub fn locate(starts: &[u32], ids: &[u32], offsets: &[u32], spans: &[u32], index: usize) -> Located
     ensures { result ≡ located starts.now ids.now offsets.now spans.now index }
 {
