@@ -1,4 +1,4 @@
--- Every word of a well_formed cache is seen, where its span says, and its view is a well_formed lattice. A view that is refused is empty. Assumes nothing.
+-- Every word of a well-formed cache is seen, where its span says, and its view is a well-formed lattice. A view that is refused is empty. Assumes nothing.
 use mathlib.Core.Path.{◌≡◌, refl, ap, subst, sym}
 use mathlib.Core.Bool.{true, false}
 use mathlib.Core.List.{List}
