@@ -4,27 +4,27 @@
     python3 tools/edits.py [NAME...]        all crates that have such edits, or those named
     python3 tools/edits.py --fit            only whether each edit fits its crate, which takes no time
 
-`rt ci` tries an edit of must-fail/ by checking its whole crate from nothing, which takes as long as proving the crate. So a crate
-that takes long has its edits in must-fail/more, but for those that document 01 names. They are tried here, over the kit's incremental
-folder. It is filled with what the proved crate's library holds of checked modules. First the crate is checked as it is, and has to be
-proved; then each edit, of which only what it changes is checked again. A program has no library, so all of it is checked once.
+`rt ci` tries the edits that stand right in must-fail/. These are more than a gate has the time for. They are tried here, by `rt
+must-fail`, in a copy of the repository outside the checkout, where they stand right in must-fail/ in the place of the others. It
+begins with what `rt check` kept of the crates in this checkout, or in another on this machine, and tries again only what has changed.
 
-What the prover says of an edit is kept in target/edits/NAME/EDIT.log, so that one can read whether it was refused for what it means.
+What rt says of an edit is kept in target/edits/NAME/EDIT.log, so that one can read whether it was refused for what it means.
 
 An edit is written as for `rt`: a line `file: PATH`, then pairs of `old: TEXT` and `new: TEXT`. The old text stands once in the file.
 """
 
-import os
-import queue
+import re
 import shutil
 import subprocess
 import sys
 import tempfile
-import threading
 import time
 from pathlib import Path
 
 ROOT = Path(__file__).resolve().parent.parent
+MORE = "must-fail/more"
+# What rt says of an edit: its crate and name, and what came of it.
+SAID = re.compile(r"(?:rt: )?must-fail (\w+)/(\S+)\.edit: (.*)")
 
 
 class Bad(Exception):
@@ -32,7 +32,7 @@ class Bad(Exception):
 
 
 def edits_of(crate):
-    return sorted((ROOT / "crates" / crate / "must-fail/more").glob("*.edit"))
+    return sorted((ROOT / "crates" / crate / MORE).glob("*.edit"))
 
 
 def replacements(edit):
@@ -55,18 +55,18 @@ def replacements(edit):
 
 
 def apply(edit, folder):
-    """Edits a crate's folder. What each file held is given back."""
-    before = {}
+    """Looks that an edit fits a crate's folder: each pair to what the earlier ones made of the file."""
+    texts = {}
     for file, old, new in replacements(edit):
         path = folder / file
         if file.split("/")[0] not in ("src", "specs", "proofs") or ".." in file or not path.is_file():
             raise Bad(f"{file} is no file of the crate")
-        text = path.read_text()
+        text = texts.get(path) or path.read_text()
         if text.count(old) != 1:
             raise Bad(f"the old text stands {text.count(old)} times in {file}")
-        before.setdefault(path, text)
-        path.write_text(text.replace(old, new))
-    return before
+        texts[path] = text.replace(old, new)
+    if all(path.read_text() == text for path, text in texts.items()):
+        raise Bad("it changes nothing")
 
 
 def fit(crates):
@@ -75,9 +75,7 @@ def fit(crates):
     for crate in crates:
         for edit in edits_of(crate):
             try:
-                with tempfile.TemporaryDirectory() as folder:
-                    shutil.copytree(ROOT / "crates" / crate, folder, dirs_exist_ok=True)
-                    apply(edit, Path(folder))
+                apply(edit, ROOT / "crates" / crate)
             except Bad as why:
                 print(f"edits: {crate}/{edit.stem}: BAD EDIT: {why}")
                 bad += 1
@@ -85,130 +83,62 @@ def fit(crates):
     return not bad
 
 
-def make_room(folder):
-    """A copy of the repository to edit, over the libraries that are proved in this one."""
-    shutil.copytree(ROOT / "crates", folder / "crates")
+def lay(folder, crates):
+    """A copy of the repository, where the edits of these crates are those to try. It is the top of a repository, as `rt` looks for one."""
+    (folder / ".git").mkdir()
     shutil.copy(ROOT / "crates.txt", folder)
-    for part in ("stamp", "log"):
-        shutil.copytree(ROOT / "target" / part, folder / "target" / part)
-    (folder / "target/rlib").symlink_to(ROOT / "target/rlib")
-
-
-def checked_folder(room):
-    """The kit names the folder of what is checked after its own build. A check of the first crate, which is small, shows the name."""
-    first = next(line.split(":")[0] for line in (ROOT / "crates.txt").read_text().splitlines() if line and line[0] != "#")
-    check(first, room)
-    return next((room / "target/inc" / first).iterdir()).name
-
-
-def fill(crate, room, folder):
-    """Puts what a crate's library holds of checked modules where the incremental check looks for them."""
-    held = ROOT / "target/rlib" / f"{crate}.rlib/toolchain/checked"
-    if held.is_dir():
-        shutil.copytree(held, room / "target/inc" / crate / folder)
-
-
-def check(crate, room):
-    """The prover's word on a crate: its exit status, its verdict, the place of its first message, seconds, and all that it said."""
-    began = time.monotonic()
-    ended = subprocess.run(["rt", "dev", crate], cwd=room, stdin=subprocess.DEVNULL, capture_output=True)
-    said = (ended.stdout + ended.stderr).decode(errors="replace").splitlines()
-    verdict = next((line for line in reversed(said) if line.startswith("logic=")), "no verdict")
-    first = next((line.split(": error")[0] for line in said if ": error" in line), "")
-    seconds = round(time.monotonic() - began)
-    return ended.returncode, verdict, first.replace(f"{room}/crates/{crate}/", ""), seconds, "\n".join(said)
+    if (ROOT / "HANDLES").is_file():
+        shutil.copy(ROOT / "HANDLES", folder)
+    shutil.copytree(ROOT / "crates", folder / "crates", ignore=shutil.ignore_patterns("out", "must-fail"))
+    for crate in crates:
+        tried = folder / "crates" / crate / "must-fail"
+        tried.mkdir()
+        for edit in edits_of(crate):
+            shutil.copy(edit, tried)
 
 
 def keep(crate, edit, said):
-    """Keeps what the prover said of an edit."""
+    """Keeps what rt said of an edit."""
     folder = ROOT / "target/edits" / crate
     folder.mkdir(parents=True, exist_ok=True)
-    (folder / f"{edit.stem}.log").write_text(said + "\n")
+    (folder / f"{edit}.log").write_text(said + "\n")
 
 
-def try_crate(crate, room, say):
-    """Whether the crate is proved as it is, and how many of its edits are refused."""
-    status, verdict, first, seconds, _ = check(crate, room)
-    if status != 0 or not verdict.startswith("logic=proved"):
-        say(f"{crate}: NOT PROVED as it is ({verdict}; {first})")
-        return False, 0
-    say(f"{crate}: proved as it is ({seconds} s)")
-    refused = 0
-    for edit in edits_of(crate):
-        name = f"{crate}/{edit.stem}"
-        try:
-            before = apply(edit, room / "crates" / crate)
-        except Bad as why:
-            say(f"{name}: BAD EDIT: {why}")
-            continue
-        status, verdict, first, seconds, said = check(crate, room)
-        keep(crate, edit, said)
-        for path, text in before.items():
-            path.write_text(text)
-        if status == 1 and verdict.startswith("logic=not-proved"):
-            say(f"{name}: refused, as it must be (first at {first}; {seconds} s)")
-            refused += 1
-        else:
-            say(f"{name}: NOT REFUSED (exit {status}, {verdict}; {seconds} s)")
-    return True, refused
-
-
-def size(crate):
-    """What a crate is about to cost: the longest are begun first."""
-    folder = ROOT / "crates" / crate
-    return sum(path.stat().st_size for part in ("src", "specs", "proofs") for path in (folder / part).rglob("*") if path.is_file())
-
-
-def jobs():
-    return int(os.environ.get("RT_JOBS") or min(os.cpu_count() or 1, 4))
+def tried(crates):
+    """The edits of these crates that are refused: crate and name of each. What rt says is told as it comes."""
+    refused = set()
+    with tempfile.TemporaryDirectory(prefix="edits-") as room:
+        lay(Path(room), crates)
+        how = {"cwd": room, "stdin": subprocess.DEVNULL, "stdout": subprocess.PIPE, "stderr": subprocess.STDOUT, "text": True}
+        with subprocess.Popen(["rt", "must-fail", *crates], **how) as running:
+            for line in map(str.rstrip, running.stdout):
+                said = SAID.match(line)
+                if not said:
+                    continue
+                crate, edit, what = said.groups()
+                print(f"edits: {crate}/{edit}: {what}", flush=True)
+                keep(crate, edit, what)
+                if what.startswith("refused, as it must be"):
+                    refused.add((crate, edit))
+    return refused
 
 
 def main():
-    every = sorted({path.parent.parent.parent.name for path in ROOT.glob("crates/*/must-fail/more/*.edit")})
+    every = sorted({path.parents[MORE.count("/") + 1].name for path in ROOT.glob(f"crates/*/{MORE}/*.edit")})
     if sys.argv[1:] == ["--fit"]:
         sys.exit(not fit(every))
     named = sys.argv[1:] or every
     for crate in named:
         if not edits_of(crate):
-            sys.exit(f"edits: {crate} has no edit in crates/{crate}/must-fail/more")
+            sys.exit(f"edits: {crate} has no edit in crates/{crate}/{MORE}")
+    if not fit(named):
+        sys.exit("edits: FAILED: what does not fit is told above")
     began = time.monotonic()
-    subprocess.run(["rt", "check", *named], cwd=ROOT, stdin=subprocess.DEVNULL, stdout=subprocess.DEVNULL, check=True)
-
-    waiting = queue.SimpleQueue()
-    for crate in sorted(named, key=size, reverse=True):
-        waiting.put(crate)
-    lock = threading.Lock()
-    outcomes = {}
-
-    def say(text):
-        with lock:
-            print(f"edits: {text}", flush=True)
-
-    def work(room):
-        make_room(room)
-        folder = checked_folder(room)
-        while True:
-            try:
-                crate = waiting.get_nowait()
-            except queue.Empty:
-                return
-            fill(crate, room, folder)
-            outcomes[crate] = try_crate(crate, room, say)
-            shutil.rmtree(room / "target/inc" / crate)
-
-    with tempfile.TemporaryDirectory() as folder:
-        workers = [threading.Thread(target=work, args=(Path(folder) / str(k),)) for k in range(min(jobs(), len(named)))]
-        for worker in workers:
-            worker.start()
-        for worker in workers:
-            worker.join()
-
-    edits = sum(len(edits_of(crate)) for crate in named)
-    refused = sum(outcomes.get(crate, (False, 0))[1] for crate in named)
-    failed = [crate for crate in named if outcomes.get(crate) != (True, len(edits_of(crate)))]
-    say(f"{refused} of {edits} refused, in {len(named)} crates, {round(time.monotonic() - began)} s")
-    if failed:
-        sys.exit("edits: FAILED: " + " ".join(failed))
+    wanted = {(crate, edit.stem) for crate in named for edit in edits_of(crate)}
+    refused = tried(named)
+    print(f"edits: {len(refused & wanted)} of {len(wanted)} refused, in {len(named)} crates, {round(time.monotonic() - began)} s")
+    if refused != wanted:
+        sys.exit("edits: FAILED: " + " ".join(sorted(f"{crate}/{edit}" for crate, edit in wanted - refused)))
 
 
 if __name__ == "__main__":

@@ -24,7 +24,7 @@
     python3 tools/rust.py filter                         the reference as a filter
 
 The library is the static library with the proved code, which
-tools/native-staticlib export writes. It is looked for in target/ if none is
+tools/native-staticlib export writes. It is looked for in target/native if none is
 named. That of training, which tools/native-staticlib export_train writes, is
 looked for there. The Rust original is compiled from the folder that SPLINTR_SRC names, as
 tools/oracle/README.md says. Other arguments go to the tool.
@@ -37,7 +37,6 @@ from pathlib import Path
 
 ROOT = Path(__file__).resolve().parents[1]
 OUT = ROOT / "target/tools"
-FOLDERS = ["target/native", "target/staticlib"]
 RUSTC = ["rustc", "--edition", "2021", "-C", "opt-level=3", "-D", "warnings"]
 
 # Tool: its programs, each a source and the kind of what it links, which says
@@ -63,12 +62,11 @@ TOOLS = {
 
 
 def library(named, name="export"):
-    """The static library that is named, or the first of this name that stands in target/."""
-    places = [Path(named).resolve()] if named else [ROOT / folder / f"lib{name}.a" for folder in FOLDERS]
-    for place in places:
-        if place.is_file():
-            return place
-    sys.exit("rust: no library at " + " or ".join(map(str, places)))
+    """The static library that is named, or that of this name in target/native."""
+    place = Path(named).resolve() if named else ROOT / f"target/native/lib{name}.a"
+    if place.is_file():
+        return place
+    sys.exit(f"rust: no library at {place}")
 
 
 def originals():

@@ -8,19 +8,16 @@
 
 Each run has to end with status 0 and write nothing to standard error. What it prints is compared with the model of
 tools/vectors/train.py byte for byte; a hostile input that is in order all the same needs the oracle for that, and without one only
-the form of the answer is looked at. Hostile inputs of 64 MB and more are run in an address space of 64 MB, but for the
-emulator's, so that memory that grows with the input would end the run.
+the form of the answer is looked at. Hostile inputs of 64 MB and more are run in an address space of 64 MB, so that
+memory that grows with the input would end the run.
 
-The program is target/bin/train, proved first if it has changed, run by the kit's loader and on Arm under its emulator, as
-tools/run does it."""
+The program is crates/train/out/train, proved first if it has changed, as tools/run does it."""
 
 import argparse
 import os
-import platform
 import random
 import re
 import resource
-import shutil
 import subprocess
 import sys
 import time
@@ -41,14 +38,11 @@ ANSWER = re.compile(r"11[0-9a-f]{32}\n(12[0-9a-f]{26}([0-9a-f]{2})*\n)*13[0-9a-f
 
 
 def program():
-    """The command that runs target/bin/train."""
-    if subprocess.run(["rt", "check", "train"], cwd=ROOT, stdin=subprocess.DEVNULL, stdout=subprocess.DEVNULL).returncode:
-        sys.exit("train: the program is not proved: see rt check train")
-    kit = Path(os.environ.get("RATTLE_HOME") or Path(shutil.which("rt")).resolve().parents[1])
-    tools = kit / "on" / platform.machine() / "toolchain"
-    emulator = tools / "bin/qemu-x86_64"
-    loader = [tools / "lib/ld-linux-x86-64.so.2", "--library-path", tools / "lib", ROOT / "target/bin/train"]
-    return [str(word) for word in ([emulator] if emulator.exists() else []) + loader]
+    """The command that runs crates/train/out/train. A run with no input proves and builds it."""
+    folder, nothing = ROOT / "crates/train", subprocess.DEVNULL
+    if subprocess.run(["rt", "run"], cwd=folder, stdin=nothing, stdout=nothing, stderr=nothing).returncode:
+        sys.exit("train: the program is not proved: see rt check in crates/train")
+    return [str(folder / "out/train")]
 
 
 def run(command, data, limit=None):
@@ -67,7 +61,9 @@ def compare(command, named, outputs, limit=None):
         prints = pool.map(lambda each: run(command, each[1], limit), named)
         for (name, data), wanted, printed in zip(named, outputs, prints, strict=True):
             if printed != wanted and (wanted is not None or not ANSWER.fullmatch(printed)):
-                Path(ROOT / "target/train.in").write_bytes(data)
+                kept = ROOT / "target/train.in"
+                kept.parent.mkdir(exist_ok=True)
+                kept.write_bytes(data)
                 sys.exit(f"train: {name}: printed\n{printed[:400]}\nand not\n{(wanted or '')[:400]}\nthe input is target/train.in")
             refused += printed[2:4] != "00"
     return refused
@@ -129,8 +125,7 @@ def hostile(command, options):
     if small != model.refused(1, 1):
         sys.exit(f"train: the empty input prints {small}")
     named = list(giants())
-    limit = None if "qemu" in command[0] else 2**26
-    refused += compare(command, named, model.expect([data for _, data in named]), limit)
+    refused += compare(command, named, model.expect([data for _, data in named]), 2**26)
     return done + len(named), refused
 
 

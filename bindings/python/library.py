@@ -1,7 +1,7 @@
 """Finds the proved library as a shared one, and builds it on first use.
 
-`rt` proves crates and writes static archives; tools/native-staticlib makes them for the processor at hand, x86-64 or Arm.
-A linker makes one shared library of both, target/native/libcauseylark.so, which ctypes can load. Nothing is compiled from C.
+`rt` proves crates and writes static archives; tools/native-staticlib puts them into target/native. A linker makes one
+shared library of both, target/native/libcauseylark.so, which ctypes can load. Nothing is compiled from C.
 """
 
 import ctypes
@@ -39,7 +39,8 @@ def age(path):
 def needed(crate):
     """The crates that this one stands on, with itself, as crates.txt has them."""
     lines = (line.split("#")[0] for line in (ROOT / "crates.txt").read_text().splitlines())
-    below = {name.strip(): deps.split() for name, _, deps in (line.partition(":") for line in lines) if name.strip()}
+    rows = (line.partition(":") for line in lines)
+    below = {name.split()[0]: deps.split() for name, _, deps in rows if name.strip()}
     found, waiting = set(), [crate]
     while waiting:
         name = waiting.pop()
@@ -68,7 +69,7 @@ def run(command, what):
 
 def proved(crates):
     """How many of these crates are proved so far."""
-    return sum((ROOT / "target/rlib" / f"{name}.rlib").exists() for name in crates)
+    return sum((ROOT / "crates" / name / "out/rlib/stamp").exists() for name in crates)
 
 
 def build_archive(crate, say):

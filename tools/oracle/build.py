@@ -100,13 +100,11 @@ def sha256(data):
 
 def library(given):
     """The archive that holds our mathematics."""
-    own = [ROOT / "target" / kind / "libexport.a" for kind in ("native", "staticlib")]
-    for place in [pathlib.Path(given)] if given else own:
-        if place.is_file():
-            return place.resolve()
+    place = pathlib.Path(given) if given else ROOT / "target/native/libexport.a"
+    if place.is_file():
+        return place.resolve()
     raise Refused(
-        "no library of our mathematics: make it by `rt staticlib export`, on Arm by `tools/native-staticlib export`, "
-        "or name one by --library; --stock needs none"
+        "no library of our mathematics: make it by `tools/native-staticlib export`, or name one by --library; --stock needs none"
     )
 
 
