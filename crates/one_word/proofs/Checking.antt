@@ -1,10 +1,9 @@
 -- From the checks of the parts to the check of all. Assumes nothing.
-use mathlib.Core.Path.{◌≡◌, sym, ap, ◌∙◌, subst}
+use mathlib.Core.Path.{◌≡◌, sym, subst}
 use mathlib.Core.List.{List}
 use Prim.Native.Nat.{ℕ, ◌≤◌, ◌<◌}
 use native.Mathlib.Omega.{arith}
-use lib.Dec.{T}
-use lib.ListN.{length, get_or, take, get_or-eq_default}
+use lib.ListN.{length, take, get_or-eq_default}
 use lib.Ieee.{Float, nan}
 use Rattle.refusal.specs.declared.Refusal.{Refusal}
 use Rattle.refusal.specs.declared.Refusal.TheVariants.{BadWord, BadScore}
@@ -12,11 +11,11 @@ use Rattle.spans.specs.Spans.{many}
 use Rattle.inputs.specs.Inputs.{Bounded as AllBounded, InOrder as AllInOrder, Why as NotInOrder, bad_setting as its-setting, no_room as its-room, bad_word as its-word, bad_piece as its-piece, repeated as its-repeat, Answers}
 use Rattle.inputs.specs.declared.Checked.{Checked}
 use Rattle.inputs.specs.declared.Checked.TheVariants.{Fine, Refused}
-use Rattle.scores.specs.Floats.{zero_or_below, ZeroOrBelow}
-use Rattle.lent.specs.Lent.{FirstBad, AllScored as LentScored, Answers as LentAnswers}
+use Rattle.scores.specs.Floats.{ZeroOrBelow}
+use Rattle.lent.specs.Lent.{AllScored as LentScored, Answers as LentAnswers}
 use Rattle.lent.specs.declared.Scored.{Scored}
 use Rattle.lent.specs.declared.Scored.TheVariants.{Fine as ScoredFine, BadAt}
-use Rattle.one_word.specs.Word.{Lent, Bounded, AllScored, FirstUnscored, InOrder, Bad, bad_setting, no_room, bad_word, bad_piece, repeated, bad_score}
+use Rattle.one_word.specs.Word.{Lent, Bounded, FirstUnscored, InOrder, Bad, bad_setting, no_room, bad_word, bad_piece, repeated, bad_score}
 use Rattle.one_word.specs.Steps.{Spanned}
 use Rattle.one_word.proofs.Spans.{short_text, one_span, good_span, span_good, bad_span}
 

@@ -1,13 +1,12 @@
 -- From the best cut of the laid-out lattice to the answer. Assumes nothing.
-use mathlib.Core.Path.{◌≡◌, refl, sym, ap, ◌∙◌, subst}
+use mathlib.Core.Path.{◌≡◌, refl, sym, subst}
 use mathlib.Core.List.{List, map}
-use Prim.Native.Nat.{ℕ, ◌+◌, ◌≤◌, ◌<◌}
+use Prim.Native.Nat.{ℕ, ◌+◌, ◌≤◌}
 use native.Mathlib.Nat.{lt_irrefl}
 use native.Mathlib.Omega.{arith}
 use lib.ListN.{length, get_or, take}
 use lib.Ieee.{Float}
 use Rattle.refusal.specs.declared.Refusal.{Refusal}
-use Rattle.refusal.specs.declared.Refusal.TheVariants.{NoRoom, NoPath}
 use Rattle.lattice.specs.Layout.{joined, offsets}
 use Rattle.inputs.proofs.Theorems.{not_both}
 use Rattle.scores.specs.Best.{FiniteCut}
@@ -22,7 +21,7 @@ use Rattle.fresh.specs.Build.{Results, afresh, Why as NotBuilt, not_in_order, no
 use Rattle.fresh.specs.Steps.{Follows as BuildFollows}
 use Rattle.fresh.specs.declared.Built.{Built}
 use Rattle.fresh.specs.declared.Built.TheVariants.{Edges, Refused as Denied}
-use Rattle.one_word.specs.Word.{Lent, chars, rows, ids, InOrder, TrieRoom, Slots, Why, no_trie, no_slots, no_path, Answers}
+use Rattle.one_word.specs.Word.{Lent, chars, rows, ids, InOrder, TrieRoom, Why, no_trie, no_slots, no_path, Answers}
 use Rattle.one_word.specs.Steps.{Spanned, Exact, NotCut, no_slots as short-path, no_path as uncut, Cuts}
 use Rattle.one_word.proofs.Checking.{ordered_so}
 use Rattle.one_word.proofs.Laid.{as_text, Stands, stands, room}

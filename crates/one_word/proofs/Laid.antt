@@ -1,17 +1,16 @@
 -- The lattice of the only word of a text, as it is laid out. Assumes nothing.
-use mathlib.Core.Path.{◌≡◌, refl, sym, ap, ◌∙◌, subst}
-use mathlib.Core.List.{List, [], ◌∷◌, ◌++◌, map, append-nil}
+use mathlib.Core.Path.{◌≡◌, sym, ap, ◌∙◌, subst}
+use mathlib.Core.List.{List, [], ◌∷◌, map, append-nil}
 use Prim.Native.Nat.{ℕ, suc, ◌+◌, ◌*◌, ◌-◌, ◌≤◌}
 use native.Mathlib.Nat.{le_trans, mul-le-mul}
 use native.Mathlib.Decide.{dec_lt}
 use native.Mathlib.Omega.{arith}
 use lib.ListN.{length, get_or, take, replicate, length-map, get_or-eq_default}
 use lib.Seq.{take-append_seam}
-use lib.Ieee.{Float, nan}
-use Rattle.utf8.specs.Chars.{chars_of}
+use lib.Ieee.{nan}
 use Rattle.spans.specs.Spans.{many, chars_at, listed}
-use Rattle.lattice.specs.Lattice.{Edge, ending, lattice, cache}
-use Rattle.lattice.specs.Layout.{joined, offsets, flat}
+use Rattle.lattice.specs.Lattice.{Edge, ending, cache}
+use Rattle.lattice.specs.Layout.{joined, offsets}
 use Rattle.lattice.proofs.Joined.{offsets_long}
 use Rattle.formed.proofs.Built.{length_rows}
 use Rattle.formed.specs.Word.{WordFormed}

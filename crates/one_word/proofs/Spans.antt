@@ -1,10 +1,10 @@
 -- The word as the only span of a text: its first bytes, one more than a word may have. Assumes nothing.
 use mathlib.Core.Path.{◌≡◌, sym, ap, ◌∙◌, subst}
 use mathlib.Core.List.{List, [], ◌∷◌}
-use Prim.Native.Nat.{ℕ, ◌≤◌, ◌<◌}
+use Prim.Native.Nat.{ℕ, ◌≤◌}
 use native.Mathlib.Nat.{not-suc-le-zero}
 use native.Mathlib.Omega.{arith}
-use lib.ListN.{length, take, length-take}
+use lib.ListN.{length, take}
 use lib.Seq.{take_all, length-take-le}
 use Rattle.utf8.specs.Encode.{Spells}
 use Rattle.utf8.specs.Chars.{chars_of}

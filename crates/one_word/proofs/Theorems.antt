@@ -4,7 +4,7 @@ use mathlib.Core.Path.{◌≡◌, refl, sym, ap, ap₂, ◌∙◌, subst}
 use mathlib.Core.Bool.{false}
 use mathlib.Core.Logic.{◌↔◌, ◌⊎◌, inl, inr}
 use mathlib.Core.List.{List, [], ◌∷◌, ◌++◌}
-use Prim.Native.Nat.{ℕ, ◌≤◌, ◌<◌, min}
+use Prim.Native.Nat.{ℕ, min}
 use native.Mathlib.Decide.{dec_lt}
 use native.Mathlib.Nat.{lt_irrefl}
 use native.Mathlib.Omega.{arith}
@@ -28,7 +28,7 @@ use Rattle.cut.specs.declared.Cut.TheVariants.{Score, Refused}
 use Rattle.spelt.proofs.Theorems.{found_spells}
 use Rattle.fresh.specs.Build.{Work}
 use Rattle.fresh.proofs.Most.{chars_few}
-use Rattle.one_word.specs.Word.{Lent, chars, rows, ids, whole_lattice, spelt, FirstUnscored, InOrder, Bad, bad_setting, no_room, bad_word, bad_piece, repeated, bad_score, TrieRoom, Slots, Why, bad, no_trie, no_slots, no_path, Given, Answers}
+use Rattle.one_word.specs.Word.{Lent, chars, ids, whole_lattice, spelt, FirstUnscored, InOrder, Bad, bad_setting, no_room, bad_word, bad_piece, repeated, bad_score, TrieRoom, Slots, Why, bad, no_trie, no_slots, no_path, Given, Answers}
 use Rattle.one_word.specs.Steps.{Spanned}
 use Rattle.one_word.proofs.Spans.{good_span, span_bad}
 use Rattle.one_word.proofs.Checking.{bounded_so, so_bounded, ordered_so}

@@ -6,7 +6,6 @@ use Rattle.lent.specs.Lent.{AllScored}
 use Rattle.scores.specs.Best.{FiniteCut}
 use Rattle.viterbi.specs.Slices.{lattice_of}
 use Rattle.viterbi.specs.Answers.{Found}
-use Rattle.fresh.specs.Build.{Work}
 use Rattle.cut.specs.declared.Cut.{Cut}
 use Rattle.cut.specs.declared.Cut.TheVariants.{Score, Refused}
 use Rattle.one_word.specs.Word.{Lent, InOrder, Answers}

@@ -6,6 +6,8 @@
 //
 // Each call builds the trie of all pieces. Whoever cuts many words over one list calls `cache::build` and then `cut::viterbi` of
 // each word, and builds the trie once.
+#![tactic(auto)]
+
 ghost use Rattle.std.specs.Prelude.{◌≡◌};
 ghost use Rattle.one_word.specs.Word.{Checks, Answers, Zeros};
 ghost use Rattle.one_word.specs.Steps.{Spanned, Exact, Cuts, Ready, Follows};
@@ -132,7 +134,7 @@ fn check_and_cut(
     ends: &mut [u32],
     table: &mut [u32],
 ) -> Cut
-    ensures { Answers (record { setting = setting; word = word.now; spellings = spellings.now; pieces = pieces.now; scores = scores.now }) (record { keys = keys.entry.now; ends = ends.old; table = table.old }) path.old path.new result }
+    ensures { Answers (record { setting = setting; word = word.now; spellings = spellings.now; pieces = pieces.now; scores = scores.now }) (record { keys = keys.old; ends = ends.old; table = table.old }) path.old path.new result }
 {
     // By its first 256 bytes it is known whether a word is too long.
     let bytes = lesser(word.len(), 256);
@@ -159,8 +161,8 @@ pub fn cut(
     ends: &mut [u32],
     table: &mut [u32],
 ) -> Cut
-    ensures answers { Answers (record { setting = setting; word = word.now; spellings = spellings.now; pieces = pieces.now; scores = scores.now }) (record { keys = keys.entry.now; ends = ends.old; table = table.old }) path.old path.new result }
-    ensures zeros { Zeros (record { keys = keys.entry.now; ends = ends.old; table = table.old }) (record { keys = keys.exit.now; ends = ends.new; table = table.new }) }
+    ensures answers { Answers (record { setting = setting; word = word.now; spellings = spellings.now; pieces = pieces.now; scores = scores.now }) (record { keys = keys.old; ends = ends.old; table = table.old }) path.old path.new result }
+    ensures zeros { Zeros (record { keys = keys.old; ends = ends.old; table = table.old }) (record { keys = keys.new; ends = ends.new; table = table.new }) }
 {
     let answer = check_and_cut(
         setting, word, spellings, pieces, scores, path, keys, ends, table,
