@@ -1,13 +1,13 @@
 -- The positions of the words are those of the corpus, and what is found at them. Assumes nothing.
-use mathlib.Core.Path.{◌≡◌, refl, sym, ap, ap₂, ◌∙◌, subst}
-use mathlib.Core.List.{List, [], ◌∷◌, ◌++◌, map}
-use Prim.Native.Nat.{ℕ, zero, suc, ◌+◌, ◌-◌, ◌*◌, ◌≤◌, ◌<◌, max}
+use mathlib.Core.Path.{◌≡◌, refl, sym, ap, ◌∙◌, subst}
+use mathlib.Core.List.{List, [], ◌∷◌, ◌++◌}
+use Prim.Native.Nat.{ℕ, zero, suc, ◌+◌, ◌≤◌, ◌<◌}
 use native.Mathlib.Omega.{arith}
 use native.Mathlib.Decide.{dec_lt}
 use lib.ListN.{length, get_or, take, drop, length-map, length-take}
 use lib.Seq.{take-append-le, take_all}
 use Rattle.spans.specs.Spans.{many, chars_at, first}
-use Rattle.positions.specs.Positions.{left, word, text_at}
+use Rattle.positions.specs.Positions.{text_at}
 use Rattle.positions.specs.Gathered.{begin, Gathered}
 use Rattle.positions.proofs.Rows.{begin_more}
 use Rattle.positions.proofs.Theorems as positions

@@ -1,21 +1,18 @@
 -- The first pieces of slices. Assumes nothing.
 use mathlib.Core.Path.{◌≡◌, refl, sym, ap, ap₂, ◌∙◌, subst}
-use mathlib.Core.List.{List, [], ◌∷◌, ◌++◌, map}
-use Prim.Native.Nat.{ℕ, zero, suc, ◌+◌, ◌-◌, ◌*◌, ◌≤◌, ◌<◌, min}
+use mathlib.Core.List.{List, [], ◌∷◌, ◌++◌}
+use Prim.Native.Nat.{ℕ, zero, suc, ◌*◌, ◌≤◌}
 use native.Mathlib.Omega.{arith}
-use lib.ListN.{length, get_or, take, drop, length-append, length-map, length-take, take-append-drop}
-use lib.Seq.{length-take-le, take-append-le, take-append-add, take-take, take_at, take_all}
+use lib.ListN.{length, take, drop, length-append, length-map, take-append-drop}
+use lib.Seq.{length-take-le, take-append-le, take_at}
 use lib.Ieee.{Float}
 use Rattle.ranking.specs.Counting.{Entry, ranked, tallies}
 use Rattle.ranking.specs.Slots.{packed}
 use Rattle.ranking.specs.Scores.{seed_scores, seed_score, seed_total}
 use Rattle.ranking.proofs.Lists.{map_join}
-use Rattle.ranking.proofs.Ranks.{ranked_length}
-use Rattle.ranking.proofs.Slots.{length_packed}
 use Rattle.ranks.specs.Ranks.{entries_of}
-use Rattle.ranks.proofs.Order.{entries_long}
 use Rattle.listed.specs.Spelled.{Spelling, Spelled}
-use Rattle.seeding.specs.Phases.{Both, BothRanked}
+use Rattle.seeding.specs.Phases.{BothRanked}
 use Rattle.seed.specs.Steps.{Writing, Written, ordered, left, Listing, ListedNow}
 
 pub cut_long : {A : Type 0} (m : ℕ) (l : List A) → m ≤ length l → m ≡ length (take m l)

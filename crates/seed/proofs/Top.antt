@@ -5,19 +5,18 @@ use mathlib.Core.Logic.{◌⊎◌, inl, inr, ⊎_elim}
 use Prim.Native.Nat.{ℕ, zero, suc, ◌+◌, ◌-◌, ◌*◌, ◌/◌, ◌≤◌, ◌<◌, ◌^◌, min, max}
 use native.Mathlib.Omega.{arith}
 use native.Mathlib.Nat.{mul-le-mul_left}
-use lib.ListN.{length, get_or, take, drop, length-append, length-map, length-take, take-append-drop}
-use lib.Seq.{length-take-le, take-append-le, take-append-add, take_at, drop_at, take_all}
+use lib.ListN.{length, take, drop, length-append, length-map, length-take}
+use lib.Seq.{length-take-le, take-append-add, take_at, drop_at}
 use lib.Ieee.{Float}
-use Rattle.spans.specs.Spans.{many, chars_at, listed}
+use Rattle.spans.specs.Spans.{many, listed}
 use Rattle.spans.specs.Check.{AllGood}
-use Rattle.positions.specs.Positions.{left, word, text_at, Laid}
+use Rattle.positions.specs.Positions.{left, text_at}
 use Rattle.positions.specs.Gathered as gathered
 use Rattle.positions.proofs.Theorems as positions
 use Rattle.order.specs.Sort.{In}
-use Rattle.ranking.specs.Corpus.{Corpus, weight}
+use Rattle.ranking.specs.Corpus.{Corpus}
 use Rattle.ranking.specs.Seed.{Uncut, Seeded}
 use Rattle.ranking.specs.Seed as seed
-use Rattle.ranking.specs.Scores.{seed_scores}
 use Rattle.ranking.specs.Positions.{Positioned}
 use Rattle.ranking.specs.Counting.{Entry, listed_in_order, commons, entry_at, ranks, ranked, spelt, texts, tallies, found_characters, found_strings, seed_entries}
 use Rattle.ranking.specs.Slots.{packed, Put}
@@ -53,6 +52,8 @@ in_join e (x ∷ xs) ys (inl d) = inl (inl d)
 in_join e (x ∷ xs) ys (inr i) = ⊎_elim (λ j. inl (inr j)) (λ j. inr j) (in_join e xs ys i)
 
 in_take : {A : Type 0} (e : A) (k : ℕ) (xs : List A) → In e (take k xs) → In e xs
+in_take e zero xs i = absurd i
+in_take e (suc k) [] i = absurd i
 in_take e (suc k) (x ∷ xs) (inl d) = inl d
 in_take e (suc k) (x ∷ xs) (inr i) = inr (in_take e k xs i)
 
@@ -62,6 +63,7 @@ entry_in (e ∷ es) zero h = inl refl
 entry_in (e ∷ es) (suc i) h = inr (entry_in es i (omega arith))
 
 to_left : {A : Type 0} (e : A) (xs ys : List A) → In e xs → In e (xs ++ ys)
+to_left e [] ys i = absurd i
 to_left e (x ∷ xs) ys (inl d) = inl d
 to_left e (x ∷ xs) ys (inr i) = inr (to_left e xs ys i)
 

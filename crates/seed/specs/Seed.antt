@@ -1,5 +1,5 @@
 -- What seeding promises, in document 01's words: port order 8, and NoRoom at place 1. Definitions only.
-use Rattle.std.specs.Prelude.{◌≡◌, List, ℕ, ◌+◌, ◌*◌, ◌/◌, ◌≤◌, ◌<◌, ◌^◌, min, max, length, get_or, take, Float}
+use Rattle.std.specs.Prelude.{◌≡◌, List, ℕ, ◌*◌, ◌/◌, ◌≤◌, ◌<◌, ◌^◌, min, max, length, get_or, take, Float}
 use Rattle.spans.specs.Spans.{many, chars_at, first, listed}
 use Rattle.spans.specs.Check.{AllGood}
 use Rattle.positions.specs.Gathered.{bytes_before, Gathering}

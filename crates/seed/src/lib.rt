@@ -4,6 +4,8 @@
 //
 // The phases are those of crate `seeding`; here they are put together, and what the cut leaves is written as spans of the text
 // with scores. More pieces before the cut than slots is document 01's NoRoom at place 1.
+#![tactic(auto)]
+
 ghost use Rattle.std.specs.Prelude.{◌≡◌, max};
 ghost use Rattle.seed.specs.Seed.{corpus_of, slots_of, Asked, Answers};
 ghost use Rattle.seed.specs.Steps.{Writing, Written, Listing, ListedNow};
