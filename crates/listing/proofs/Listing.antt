@@ -1,8 +1,7 @@
 -- From what was checked to what the list asks for, and back. Assumes nothing.
 use mathlib.Core.Path.{◌≡◌, sym, ap, ap₂, ◌∙◌, subst}
 use mathlib.Core.List.{List}
-use Prim.Native.Nat.{ℕ, ◌*◌, ◌/◌, ◌≤◌, ◌^◌, min, max}
-use native.Mathlib.Nat.{le_trans}
+use Prim.Native.Nat.{ℕ, ◌*◌, ◌/◌, ◌≤◌, ◌^◌, min}
 use native.Mathlib.Omega.{arith}
 use lib.ListN.{length, take}
 use lib.Seq.{length-take-le}

@@ -1,9 +1,7 @@
 -- The words that are kept, as the list needs them. Assumes nothing.
 use mathlib.Core.Path.{◌≡◌, refl, sym, ap, ap₂, ◌∙◌, subst}
 use mathlib.Core.List.{List, [], ◌∷◌, ◌++◌}
-use Prim.Native.Nat.{ℕ, zero, suc, ◌+◌, ◌*◌, ◌/◌, ◌≤◌, ◌<◌, ◌^◌, max}
-use native.Mathlib.Numerals.{add-one}
-use native.Mathlib.Nat.{le_trans}
+use Prim.Native.Nat.{ℕ, zero, suc, ◌+◌, ◌*◌, ◌≤◌, ◌<◌}
 use native.Mathlib.Omega.{arith}
 use lib.ListN.{length, get_or, take, drop, length-append, get_or-append}
 use lib.Seq.{get_or-take, get_or-append-add, length-take-le}

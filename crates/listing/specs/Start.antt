@@ -1,6 +1,6 @@
 -- What training is lent, when it is refused before 8, and its seed list: document 01's table, rows 2 to 7, and port order 8.
 -- Definitions only.
-use Rattle.std.specs.Prelude.{List, ℕ, ◌*◌, ◌/◌, ◌≤◌, ◌<◌, min, length, Float}
+use Rattle.std.specs.Prelude.{List, ℕ, ◌*◌, ◌/◌, ◌≤◌, min, length, Float}
 use Rattle.refusal.specs.declared.Refusal.{Refusal}
 use Rattle.refusal.specs.declared.Refusal.TheVariants.{NoRoom}
 use Rattle.spans.specs.Spans.{many}

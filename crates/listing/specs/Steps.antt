@@ -1,5 +1,5 @@
 -- What the steps ask and promise. Definitions only.
-use Rattle.std.specs.Prelude.{◌≡◌, List, ℕ, ◌*◌, ◌≤◌, length, Float}
+use Rattle.std.specs.Prelude.{◌≡◌, List, ℕ, ◌≤◌, length}
 use Rattle.refusal.specs.declared.Refusal.TheVariants.{NoRoom}
 use Rattle.spans.specs.Spans.{many}
 use Rattle.settings.specs.declared.Settings.{Settings}

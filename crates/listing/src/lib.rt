@@ -5,6 +5,8 @@
 //
 // A word has two numbers and a frequency, and the shorter list counts. A slice that a position indexes has to have a slot for
 // each byte of the text, and for each byte of all words together, which may overlap in the text.
+#![tactic(auto)]
+
 ghost use Rattle.std.specs.Prelude.{◌≡◌, ◌≤◌, ◌<◌, length};
 ghost use Rattle.laws.specs.Tests.{Says};
 ghost use Rattle.spans.specs.Spans.{many, bytes};
@@ -158,7 +160,7 @@ pub fn list(
     scores: &mut [f64],
 ) -> Started
     requires { Listing settings text.now words.now frequencies.now kept.old counts.old chars.old places.old order.old work.old ranks.old }
-    ensures { Lists settings specials text.now words.now frequencies.now (slots_of pieces.old tallies.old scores.old order.old work.old ranks.old) kept.entry.now counts.old (record { kept = kept.exit.now; counts = counts.new; pieces = pieces.new; tallies = tallies.new; scores = scores.new }) result }
+    ensures { Lists settings specials text.now words.now frequencies.now (slots_of pieces.old tallies.old scores.old order.old work.old ranks.old) kept.old counts.old (record { kept = kept.new; counts = counts.new; pieces = pieces.new; tallies = tallies.new; scores = scores.new }) result }
 {
     let many = utf8_words(text, words, frequencies, kept, counts);
     let numbers = 2 * many;
