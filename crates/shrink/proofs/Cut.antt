@@ -1,8 +1,7 @@
 -- Slices cut to the pieces and edges there are, and whole again. Assumes nothing.
-use mathlib.Core.Path.{◌≡◌, refl, sym, ap, ◌∙◌, subst}
-use mathlib.Core.List.{List, [], ◌++◌}
-use Prim.Native.Nat.{ℕ, ◌+◌, ◌*◌, ◌≤◌, ◌<◌}
-use native.Mathlib.Nat.{le_refl}
+use mathlib.Core.Path.{◌≡◌, sym, ap, ◌∙◌, subst}
+use mathlib.Core.List.{List, ◌++◌}
+use Prim.Native.Nat.{ℕ, ◌*◌, ◌≤◌}
 use native.Mathlib.Omega.{arith}
 use lib.ListN.{length, take, drop, length-take, length-append, length-drop}
 use lib.Seq.{take_all, take-append-le, take_at}
@@ -12,9 +11,9 @@ use Rattle.spans.specs.Check.{AllGood}
 use Rattle.lattice.specs.Layout.{flat}
 use Rattle.lattice.proofs.Fronts.{begin_long}
 use Rattle.retain.proofs.Held.{same_many}
-use Rattle.model.specs.Model.{Model, Task, lattices, loss_bits, pruned_to}
+use Rattle.model.specs.Model.{Model, Task, lattices, pruned_to}
 use Rattle.shrink.specs.declared.Shrunk.{Shrunk}
-use Rattle.shrink.specs.At.{Slices, At, Fixed, Room}
+use Rattle.shrink.specs.At.{Slices, At, Fixed}
 use Rattle.shrink.specs.Steps.{Exact, AtExactly, Weighing, Narrowing, Shrinking, Weighed, Narrowed}
 use Rattle.shrink.proofs.Fronts.{cut_begins, longer_begins}
 

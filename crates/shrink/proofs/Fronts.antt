@@ -1,11 +1,10 @@
 -- Lattices at the front of slices, as retain speaks of them and as EM does. Assumes nothing.
-use mathlib.Core.Path.{◌≡◌, refl, sym, ap, ◌∙◌, subst}
-use mathlib.Core.List.{List, [], ◌++◌, map, append_assoc, append-nil}
-use Prim.Native.Nat.{ℕ, ◌≤◌}
-use native.Mathlib.Omega.{arith}
+use mathlib.Core.Path.{◌≡◌, sym, ap, ◌∙◌, subst}
+use mathlib.Core.List.{List, [], ◌++◌, append_assoc, append-nil}
+use Prim.Native.Nat.{ℕ}
 use lib.ListN.{length, take, drop, length-map}
 use lib.Seq.{take-append_seam, drop-append_seam}
-use Rattle.lattice.specs.Lattice.{Edge, lattice, cache}
+use Rattle.lattice.specs.Lattice.{lattice, cache}
 use Rattle.lattice.specs.Layout.{flat}
 use Rattle.lattice.specs.Written.{over, Begins}
 use Rattle.retain.proofs.Held.{same_many}

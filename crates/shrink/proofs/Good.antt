@@ -6,7 +6,7 @@ use Prim.Native.Nat.{ℕ, zero, suc, ◌+◌, ◌*◌, ◌≤◌, ◌<◌}
 use native.Mathlib.Omega.{arith}
 use lib.Dec.{eqb}
 use lib.ListN.{length, get_or, take}
-use Rattle.spans.specs.Spans.{from, bytes, Inside, octets, chars_at}
+use Rattle.spans.specs.Spans.{from, bytes, octets}
 use Rattle.spans.specs.Check.{Good, AllGood}
 use Rattle.utf8.specs.Chars.{chars_of}
 use Rattle.utf8.specs.Encode.{Spells}

@@ -1,22 +1,20 @@
 -- From the bits of losses to the survivors: pieces, scores and lattices stay in step. Assumes nothing.
-use mathlib.Core.Path.{◌≡◌, refl, sym, ap, ◌∙◌, subst}
-use mathlib.Core.List.{List, [], ◌++◌, map}
-use Prim.Native.Nat.{ℕ, ◌+◌, ◌*◌, ◌/◌, ◌≤◌, ◌<◌}
-use native.Mathlib.Nat.{le_refl}
+use mathlib.Core.Path.{◌≡◌, sym, ap, ◌∙◌, subst}
+use mathlib.Core.List.{List}
+use Prim.Native.Nat.{ℕ, ◌*◌, ◌≤◌}
 use native.Mathlib.Omega.{arith}
-use lib.ListN.{length, get_or, take, drop, length-map, length-take, length-append, length-drop}
-use lib.Seq.{take_all}
+use lib.ListN.{length, take, drop, length-append}
 use lib.Ieee.{Float}
-use Rattle.spans.specs.Spans.{many, chars_at, listed}
+use Rattle.spans.specs.Spans.{listed}
 use Rattle.spans.specs.Check.{AllGood}
 use Rattle.lattice.specs.Pieces.{Distinct}
-use Rattle.lattice.specs.Lattice.{Edge, lattice, cache}
+use Rattle.lattice.specs.Lattice.{Edge, cache}
 use Rattle.lattice.specs.Layout.{flat}
 use Rattle.lattice.specs.Written.{Begins, Written}
 use Rattle.lattice.specs.Pruning.{gone, Remap, survivors, retained}
 use Rattle.lattice.proofs.Survivors.{still_distinct}
 use Rattle.retain.specs.Retain.{Laid, Cached}
-use Rattle.retain.specs.Calls.{Slices as Four, Holds, Call, Leaves}
+use Rattle.retain.specs.Calls.{Slices as Four, Call, Leaves}
 use Rattle.retain.proofs.Theorems.{takes_built, afresh}
 use Rattle.retain.proofs.Held.{holds}
 use Rattle.prune.specs.Prune.{kept, remap_of}
@@ -26,9 +24,8 @@ use Rattle.prune.proofs.Theorems.{entries, is_remap, how_many, pieces_left, item
 use Rattle.prune.proofs.Remaps.{front, pairs_left_long}
 use Rattle.model.specs.Model.{Model, Task, lattices, loss_bits, remap_to, pruned_to}
 use Rattle.model.proofs.Kept.{pruned_pieces, pruned_scores}
-use Rattle.shrink.specs.declared.Shrunk.{Shrunk}
 use Rattle.shrink.specs.At.{Slices, At}
-use Rattle.shrink.specs.Steps.{Exact, AtExactly, Narrowing}
+use Rattle.shrink.specs.Steps.{AtExactly, Narrowing}
 use Rattle.shrink.proofs.Good.{survivors_good}
 use Rattle.shrink.proofs.Weighed.{many_are, listed_are, scores_same, pieces_many as as_many, all_good}
 

@@ -1,19 +1,18 @@
 -- From pieces, scores and lattices to the losses: the trie, the uses, and what each call is given. Assumes nothing.
 use mathlib.Core.Path.{◌≡◌, refl, sym, ap, ◌∙◌, subst}
-use mathlib.Core.List.{List, [], map}
-use Prim.Native.Nat.{ℕ, ◌+◌, ◌*◌, ◌/◌, ◌≤◌, ◌<◌}
+use mathlib.Core.List.{List}
+use Prim.Native.Nat.{ℕ, ◌+◌, ◌*◌, ◌/◌, ◌≤◌}
 use native.Mathlib.Nat.{le_refl}
 use native.Mathlib.Omega.{arith}
-use lib.ListN.{length, get_or, take, length-map, length-take}
+use lib.ListN.{length, take, length-take}
 use lib.Seq.{take_all}
 use lib.Ieee.{Float}
 use Rattle.spans.specs.Spans.{many, chars_at, listed}
 use Rattle.spans.specs.Check.{AllGood}
-use Rattle.lattice.specs.Lattice.{Edge, lattice, cache}
+use Rattle.lattice.specs.Lattice.{Edge}
 use Rattle.cached.specs.Held.{Held}
 use Rattle.trie.specs.Prefixes.{prefixes_of}
 use Rattle.trie.specs.Listed.{newest}
-use Rattle.trie.specs.Index.{Indexes}
 use Rattle.trie.specs.declared.Indexed.{Indexed}
 use Rattle.trie.specs.declared.Indexed.TheVariants.{Nodes, NoRoom}
 use Rattle.trie.proofs.Indexing.{indexing_good}
@@ -22,7 +21,6 @@ use Rattle.rows.specs.Word.{Holds}
 use Rattle.fresh.specs.Build.{smaller}
 use Rattle.fresh.specs.Steps.{Front, Fronted}
 use Rattle.fresh.proofs.Building.{smaller_is}
-use Rattle.em.specs.Steps.{Small}
 use Rattle.uses.specs.Uses.{uses_of}
 use Rattle.uses.specs.Steps.{Given as UsesGiven}
 use Rattle.losses.specs.Losses.{losses_of, bits_of}
@@ -31,7 +29,7 @@ use Rattle.model.specs.Model.{Model, Task, lattices, loss_bits}
 use Rattle.model.specs.Nodes.{nodes}
 use Rattle.model.proofs.Nodes.{nodes_listed}
 use Rattle.model.proofs.Small.{all_small}
-use Rattle.shrink.specs.At.{Slices, At, Fixed}
+use Rattle.shrink.specs.At.{Slices, Fixed}
 use Rattle.shrink.specs.Steps.{Exact, AtExactly, Weighing}
 use Rattle.shrink.proofs.Fronts.{held}
 

@@ -1,6 +1,5 @@
 -- What the steps of a pruning are given, and what they leave. Definitions only.
-use Rattle.std.specs.Prelude.{◌≡◌, List, ℕ, ◌+◌, ◌*◌, ◌/◌, ◌≤◌, ◌<◌, length, Float}
-use Rattle.lattice.specs.Pruning.{gone}
+use Rattle.std.specs.Prelude.{◌≡◌, List, ℕ, ◌+◌, ◌*◌, ◌/◌, ◌≤◌, ◌<◌, length}
 use Rattle.fresh.specs.Build.{smaller}
 use Rattle.model.specs.Model.{Model, Task, loss_bits, pruned_to}
 use Rattle.model.specs.Nodes.{nodes}

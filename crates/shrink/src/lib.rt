@@ -3,6 +3,8 @@
 //
 // 001 builds the trie after a pruning, for the next. Here it is built before the losses that need it, so that a round begins
 // with nothing but pieces, scores and lattices. All slices but the trie's are cut to what they hold.
+#![tactic(auto)]
+
 ghost use Rattle.std.specs.Prelude.{List, ℕ, length};
 ghost use Rattle.shrink.specs.Steps.{Weighing, Weighed, Narrowing, Narrowed, Shrinking, Shrinks};
 
