@@ -6,6 +6,8 @@
 //
 // A slice is a pointer and a count in C. include/causeylark.h declares these functions for C, and bindings/rust for Rust.
 // Nothing checks the declarations against this file, so they are few and plain.
+#![tactic(auto)]
+
 mod cuts;
 
 ghost use Rattle.std.specs.Prelude.{◌≡◌, set};
