@@ -1,6 +1,5 @@
 -- The start of training has one outcome: one refusal at one place, or one list. Assumes nothing.
-use mathlib.Core.Path.{◌≡◌, refl, sym, ap, ◌∙◌}
-use mathlib.Core.List.{List}
+use mathlib.Core.Path.{◌≡◌, refl}
 use Prim.Native.Nat.{ℕ}
 use native.Mathlib.Nat.{lt_irrefl}
 use native.Mathlib.Omega.{arith}
@@ -11,9 +10,8 @@ use Rattle.settings.proofs.Theorems as settings
 use Rattle.corpus.specs.declared.Checked.TheVariants.{Fine as WordsFine, Refused as WordsRefused}
 use Rattle.corpus.specs.Check.{InOrder, Why as BadWords}
 use Rattle.corpus.proofs.Theorems as words
-use Rattle.ranking.proofs.Theorems.{uncut_unique}
 use Rattle.seed.proofs.Theorems as seed
-use Rattle.listing.specs.Start.{Lent, Work, Left, Room, Bad, bad_settings, no_room, bad_words, Fit, Why, bad, no_slots, Given, Answers}
+use Rattle.listing.specs.Start.{Lent, Work, Left, Bad, bad_settings, no_room, bad_words, Fit, Why, bad, no_slots, Given, Answers}
 use Rattle.listing.specs.declared.Started.{Started}
 use Rattle.listing.specs.declared.Started.TheVariants.{Seeded, Refused as Denied}
 

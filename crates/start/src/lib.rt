@@ -2,6 +2,8 @@
 //
 // "Training checks in this order": 2, 7 at 0, 3, 4, 5, 6 and 7 at 1 are here; crate `listing` has the steps. Nothing is cleared:
 // whoever trains goes on with what stands here, and clears at the end.
+#![tactic(auto)]
+
 ghost use Rattle.std.specs.Prelude.{◌≡◌, ◌*◌, length, take};
 ghost use Rattle.spans.specs.Spans.{many};
 ghost use Rattle.listing.specs.Start.{count_of, Answers};
@@ -30,7 +32,7 @@ fn check_and_list(
     table: &mut [u32],
 ) -> Started
     requires { length frequencies.now ≡ many words.now }
-    ensures { Answers (record { settings = settings; texts = texts.now; specials = specials.now; text = text.now; words = words.now; frequencies = frequencies.now }) (record { kept = kept.entry.now; counts = counts.old; chars = chars.old; places = places.old; order = order.old; work = work.old; ranks = ranks.old; pieces = pieces.old; tallies = tallies.old; scores = scores.old; table = table.old }) (record { kept = kept.exit.now; counts = counts.new; pieces = pieces.new; tallies = tallies.new; scores = scores.new }) result }
+    ensures { Answers (record { settings = settings; texts = texts.now; specials = specials.now; text = text.now; words = words.now; frequencies = frequencies.now }) (record { kept = kept.old; counts = counts.old; chars = chars.old; places = places.old; order = order.old; work = work.old; ranks = ranks.old; pieces = pieces.old; tallies = tallies.old; scores = scores.old; table = table.old }) (record { kept = kept.new; counts = counts.new; pieces = pieces.new; tallies = tallies.new; scores = scores.new }) result }
 {
     let room = listing::positions(chars, places, order, work, ranks);
     match listing::check(
@@ -86,7 +88,7 @@ pub fn start(
     scores: &mut [f64],
     table: &mut [u32],
 ) -> Started
-    ensures { Answers (record { settings = settings; texts = texts.now; specials = specials.now; text = text.now; words = take (2 * (count_of words.now frequencies.now)) words.now; frequencies = take (count_of words.now frequencies.now) frequencies.now }) (record { kept = kept.entry.now; counts = counts.old; chars = chars.old; places = places.old; order = order.old; work = work.old; ranks = ranks.old; pieces = pieces.old; tallies = tallies.old; scores = scores.old; table = table.old }) (record { kept = kept.exit.now; counts = counts.new; pieces = pieces.new; tallies = tallies.new; scores = scores.new }) result }
+    ensures { Answers (record { settings = settings; texts = texts.now; specials = specials.now; text = text.now; words = take (2 * (count_of words.now frequencies.now)) words.now; frequencies = take (count_of words.now frequencies.now) frequencies.now }) (record { kept = kept.old; counts = counts.old; chars = chars.old; places = places.old; order = order.old; work = work.old; ranks = ranks.old; pieces = pieces.old; tallies = tallies.old; scores = scores.old; table = table.old }) (record { kept = kept.new; counts = counts.new; pieces = pieces.new; tallies = tallies.new; scores = scores.new }) result }
 {
     let many = listing::count(words, frequencies);
     let numbers = 2 * many;
