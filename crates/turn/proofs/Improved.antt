@@ -1,12 +1,12 @@
 -- EM over the pieces and edges in front: what it is given, and what it leaves of a model. Assumes nothing.
-use mathlib.Core.Path.{◌≡◌, refl, sym, ap, ◌∙◌, subst}
-use mathlib.Core.List.{List, [], ◌++◌}
-use Prim.Native.Nat.{ℕ, ◌+◌, ◌*◌, ◌/◌, ◌≤◌, ◌<◌}
+use mathlib.Core.Path.{◌≡◌, sym, ap, ◌∙◌, subst}
+use mathlib.Core.List.{List, ◌++◌}
+use Prim.Native.Nat.{ℕ, ◌*◌, ◌/◌, ◌≤◌}
 use native.Mathlib.Omega.{arith}
-use lib.ListN.{length, get_or, take, drop, length-take, length-drop, length-append}
+use lib.ListN.{length, take, drop, length-append}
 use lib.Seq.{take_at}
 use lib.Ieee.{Float}
-use Rattle.spans.specs.Spans.{many, chars_at, listed}
+use Rattle.spans.specs.Spans.{many, chars_at}
 use Rattle.lattice.specs.Pieces.{Distinct}
 use Rattle.lattice.specs.Lattice.{Edge, cache}
 use Rattle.lattice.specs.Layout.{flat}
@@ -14,7 +14,7 @@ use Rattle.lattice.specs.Written.{Begins}
 use Rattle.trie.proofs.Same.{length_first}
 use Rattle.cached.specs.Held.{Held}
 use Rattle.em.specs.Em.{em_many}
-use Rattle.em.specs.Steps.{Given, Small}
+use Rattle.em.specs.Steps.{Given}
 use Rattle.em.proofs.Theorems.{as_many}
 use Rattle.model.specs.Model.{Model, Task, lattices, improved, improved_once}
 use Rattle.model.proofs.Small.{all_small}

@@ -1,14 +1,13 @@
 -- One round: a pruning, and EM over what is left. Assumes nothing.
-use mathlib.Core.Path.{◌≡◌, refl, sym, ap, ◌∙◌, subst}
+use mathlib.Core.Path.{◌≡◌}
 use mathlib.Core.List.{List}
-use Prim.Native.Nat.{ℕ, ◌≤◌, ◌<◌}
+use Prim.Native.Nat.{ℕ, ◌≤◌}
 use native.Mathlib.Omega.{arith}
-use lib.ListN.{length}
 use lib.Ieee.{Float}
-use Rattle.model.specs.Model.{Model, Task, improved, pruned_to}
+use Rattle.model.specs.Model.{Model, Task, pruned_to}
 use Rattle.model.proofs.Kept.{pruned_kept}
 use Rattle.shrink.specs.declared.Shrunk.{Shrunk}
-use Rattle.shrink.specs.At.{Slices, At, Fixed}
+use Rattle.shrink.specs.At.{Slices, At}
 use Rattle.shrink.specs.Steps.{Shrinking, Shrinks}
 use Rattle.turn.specs.Steps.{Improving, Improves, Turns}
 use Rattle.turn.proofs.Improved.{at_count, improving, improved_at}

@@ -1,6 +1,8 @@
 // One round of training: a pruning, and EM; and EM alone, which comes before the rounds and after them.
 //
 // It is a crate of its own, apart from `rounds`, since the prover's cost is slices: each of the two has many.
+#![tactic(auto)]
+
 ghost use Rattle.std.specs.Prelude.{length};
 ghost use Rattle.shrink.specs.Steps.{Shrinking};
 ghost use Rattle.turn.specs.Steps.{Improving, Improves, Turns};
