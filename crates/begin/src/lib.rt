@@ -30,7 +30,7 @@ pub fn begin(
     scores: &mut [f64],
     slots: usize,
 ) -> Started
-    ensures begun { Begun (record { settings = settings; texts = texts.now; specials = specials.now; text = text.now; words = take (2 * (count_of words.now frequencies.now)) words.now; frequencies = take (count_of words.now frequencies.now) frequencies.now }) (record { kept = kept.entry.now; counts = counts.old; chars = chars.old; places = places.old; order = order.old; work = work.old; ranks = ranks.old; pieces = pieces.old; tallies = tallies.old; scores = take (smaller (length scores.old) slots) scores.old; table = table.old }) kept.exit.now counts.new pieces.new scores.new result }
+    ensures begun { Begun (record { settings = settings; texts = texts.now; specials = specials.now; text = text.now; words = take (2 * (count_of words.now frequencies.now)) words.now; frequencies = take (count_of words.now frequencies.now) frequencies.now }) (record { kept = kept.old; counts = counts.old; chars = chars.old; places = places.old; order = order.old; work = work.old; ranks = ranks.old; pieces = pieces.old; tallies = tallies.old; scores = take (smaller (length scores.old) slots) scores.old; table = table.old }) kept.new counts.new pieces.new scores.new result }
     ensures table_after { (table.new ≡ replicate (length table.old) 0) × (chars.new ≡ replicate (length chars.old) 0) }
     ensures places_after { (places.new ≡ replicate (length places.old) 0) × (tallies.new ≡ replicate (length tallies.old) 0) }
 {

@@ -71,7 +71,7 @@ pub fn finish(
     token_scores: &mut [f64],
 ) -> Trained
     requires { GoingOn settings texts.now specials.now text.now kept.now counts.now (length order.old) (length work.old) (length ranks.old) pieces.old scores.old (length expected.old) started }
-    ensures goes_on { GoesOn settings texts.now specials.now text.now kept.now counts.now pieces.old scores.old started keys.old ends.old (record { offsets = offsets.entry.now; starts = starts.old; ids = ids.old; spans = spans.old }) (record { bytes = bytes.entry.now; tokens = tokens.old; scores = token_scores.old }) (record { bytes = bytes.exit.now; tokens = tokens.new; scores = token_scores.new }) result }
+    ensures goes_on { GoesOn settings texts.now specials.now text.now kept.now counts.now pieces.old scores.old started keys.old ends.old (record { offsets = offsets.old; starts = starts.old; ids = ids.old; spans = spans.old }) (record { bytes = bytes.old; tokens = tokens.old; scores = token_scores.old }) (record { bytes = bytes.new; tokens = tokens.new; scores = token_scores.new }) result }
     ensures order_after { (order.new ≡ replicate (length order.old) 0) × (work.new ≡ replicate (length work.old) 0) × (ranks.new ≡ replicate (length ranks.old) 0) × (pieces.new ≡ replicate (length pieces.old) 0) × (scores.new ≡ replicate (length scores.old) nought) × (expected.new ≡ replicate (length expected.old) nought) }
     ensures keys_after { (keys.new ≡ replicate (length keys.old) 0) × (ends.new ≡ replicate (length ends.old) 0) × (offsets.new ≡ replicate (length offsets.old) 0) × (starts.new ≡ replicate (length starts.old) 0) × (ids.new ≡ replicate (length ids.old) 0) × (spans.new ≡ replicate (length spans.old) 0) }
 {

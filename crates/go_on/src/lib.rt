@@ -34,7 +34,7 @@ pub fn go_on(
     token_scores: &mut [f64],
 ) -> Trained
     requires { Ready settings texts.now specials.now text.now kept.now counts.now (length order.old) (length work.old) (length ranks.old) pieces.old scores.old (length expected.old) started }
-    ensures { Follows settings texts.now specials.now text.now kept.now counts.now pieces.old scores.old started keys.old ends.old (record { offsets = offsets.entry.now; starts = starts.old; ids = ids.old; spans = spans.old }) (record { bytes = bytes.entry.now; tokens = tokens.old; scores = token_scores.old }) (record { bytes = bytes.exit.now; tokens = tokens.new; scores = token_scores.new }) result }
+    ensures { Follows settings texts.now specials.now text.now kept.now counts.now pieces.old scores.old started keys.old ends.old (record { offsets = offsets.old; starts = starts.old; ids = ids.old; spans = spans.old }) (record { bytes = bytes.old; tokens = tokens.old; scores = token_scores.old }) (record { bytes = bytes.new; tokens = tokens.new; scores = token_scores.new }) result }
 {
     match started {
         Started::Refused(refusal) => Trained::Refused(refusal),

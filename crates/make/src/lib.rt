@@ -33,7 +33,7 @@ fn conclude(
     token_scores: &mut [f64],
 ) -> Trained
     requires { Given texts.now specials.now text.now pieces.now scores.now }
-    ensures { Concludes (tokens_of texts.now specials.now text.now pieces.now) (scores_of specials.now scores.now) (length scores.now) target required (record { bytes = bytes.entry.now; tokens = tokens.old; scores = token_scores.old }) (record { bytes = bytes.exit.now; tokens = tokens.new; scores = token_scores.new }) result }
+    ensures { Concludes (tokens_of texts.now specials.now text.now pieces.now) (scores_of specials.now scores.now) (length scores.now) target required (record { bytes = bytes.old; tokens = tokens.old; scores = token_scores.old }) (record { bytes = bytes.new; tokens = tokens.new; scores = token_scores.new }) result }
 {
     match tokens::write(
         texts,
@@ -82,7 +82,7 @@ pub fn make(
     token_scores: &mut [f64],
 ) -> Trained
     requires { Making settings texts.now specials.now text.now kept.now counts.now words count required (length order.old) (length work.old) (length ranks.old) pieces.old scores.old (length expected.old) }
-    ensures { Makes settings texts.now specials.now text.now kept.now counts.now words count required pieces.old scores.old keys.old ends.old (record { offsets = offsets.entry.now; starts = starts.old; ids = ids.old; spans = spans.old }) (record { bytes = bytes.entry.now; tokens = tokens.old; scores = token_scores.old }) (record { bytes = bytes.exit.now; tokens = tokens.new; scores = token_scores.new }) result }
+    ensures { Makes settings texts.now specials.now text.now kept.now counts.now words count required pieces.old scores.old keys.old ends.old (record { offsets = offsets.old; starts = starts.old; ids = ids.old; spans = spans.old }) (record { bytes = bytes.old; tokens = tokens.old; scores = token_scores.old }) (record { bytes = bytes.new; tokens = tokens.new; scores = token_scores.new }) result }
 {
     let many = spans::count(specials);
     let target = settings.target(many);

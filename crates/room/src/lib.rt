@@ -29,7 +29,7 @@ fn train(
     tokens: &mut [u32],
     token_scores: &mut [f64],
 ) -> Trained
-    ensures { Answers (asked settings texts.now specials.now text.now words.now frequencies.now) rooms (record { bytes = bytes.entry.now; tokens = tokens.old; scores = token_scores.old }) (record { bytes = bytes.exit.now; tokens = tokens.new; scores = token_scores.new }) result }
+    ensures { Answers (asked settings texts.now specials.now text.now words.now frequencies.now) rooms (record { bytes = bytes.old; tokens = tokens.old; scores = token_scores.old }) (record { bytes = bytes.new; tokens = tokens.new; scores = token_scores.new }) result }
 {
     let mut kept = [0u32; 512];
     let mut counts = [0u64; 256];
@@ -102,7 +102,7 @@ fn learn(
     tokens: &mut [u32],
     token_scores: &mut [f64],
 ) -> Trained
-    ensures { Answers (lent_by (tables stored texts.now specials.now text.now words.now frequencies.now)) rooms (record { bytes = bytes.entry.now; tokens = tokens.old; scores = token_scores.old }) (record { bytes = bytes.exit.now; tokens = tokens.new; scores = token_scores.new }) result }
+    ensures { Answers (lent_by (tables stored texts.now specials.now text.now words.now frequencies.now)) rooms (record { bytes = bytes.old; tokens = tokens.old; scores = token_scores.old }) (record { bytes = bytes.new; tokens = tokens.new; scores = token_scores.new }) result }
 {
     let settings = stored.settings;
     let a = lesser(stored.specials.bytes, texts.len());
@@ -136,7 +136,7 @@ pub fn answer(
     tokens: &mut [u32],
     token_scores: &mut [f64],
 ) -> Trained
-    ensures { Replies (end_of input.reading) (tables input.stored texts.now specials.now text.now words.now frequencies.now) (record { bytes = bytes.entry.now; tokens = tokens.old; scores = token_scores.old }) (record { bytes = bytes.exit.now; tokens = tokens.new; scores = token_scores.new }) result }
+    ensures { Replies (end_of input.reading) (tables input.stored texts.now specials.now text.now words.now frequencies.now) (record { bytes = bytes.old; tokens = tokens.old; scores = token_scores.old }) (record { bytes = bytes.new; tokens = tokens.new; scores = token_scores.new }) result }
 {
     let stored = input.stored;
     let reading = input.reading;

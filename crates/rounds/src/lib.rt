@@ -34,7 +34,7 @@ fn prune_on(
     ends: &mut [u32],
 ) -> Shrunk
     requires { Pruning setting text.now words frequencies.now iterations factor target required count edges (record { pieces = pieces.now; scores = scores.old; offsets = offsets.old; starts = starts.old; ids = ids.old; spans = spans.old }) (length expected.old) (length bits.old) (length ranked.old) (length remap.old) (length keys.old) (length ends.old) }
-    ensures { Prunes setting text.now words frequencies.now iterations factor target required count edges (record { pieces = pieces.entry.now; scores = scores.old; offsets = offsets.old; starts = starts.old; ids = ids.old; spans = spans.old }) (record { pieces = pieces.exit.now; scores = scores.new; offsets = offsets.new; starts = starts.new; ids = ids.new; spans = spans.new }) result }
+    ensures { Prunes setting text.now words frequencies.now iterations factor target required count edges (record { pieces = pieces.old; scores = scores.old; offsets = offsets.old; starts = starts.old; ids = ids.old; spans = spans.old }) (record { pieces = pieces.new; scores = scores.new; offsets = offsets.new; starts = starts.new; ids = ids.new; spans = spans.new }) result }
 {
     let mut so = Shrunk {
         pieces: count,
@@ -96,7 +96,7 @@ pub fn rounds(
     ends: &mut [u32],
 ) -> usize
     requires { Rounding setting text.now words frequencies.now iterations factor target required count edges (record { pieces = pieces.now; scores = scores.old; offsets = offsets.old; starts = starts.old; ids = ids.old; spans = spans.old }) (length expected.old) (length bits.old) (length ranked.old) (length remap.old) (length keys.old) (length ends.old) }
-    ensures { Rounds setting text.now words frequencies.now iterations factor target required count edges (record { pieces = pieces.entry.now; scores = scores.old; offsets = offsets.old; starts = starts.old; ids = ids.old; spans = spans.old }) pieces.exit.now scores.new result }
+    ensures { Rounds setting text.now words frequencies.now iterations factor target required count edges (record { pieces = pieces.old; scores = scores.old; offsets = offsets.old; starts = starts.old; ids = ids.old; spans = spans.old }) pieces.new scores.new result }
 {
     improve(
         words,

@@ -39,7 +39,7 @@ pub fn shape(
     spans: &mut [u32],
 ) -> Shaped
     requires { Shaping settings target text.now kept.now counts.now words count required (length order.old) (length work.old) (length ranks.old) pieces.old scores.old (length expected.old) }
-    ensures { Shapes settings target text.now kept.now counts.now words count required pieces.old scores.old keys.old ends.old (record { offsets = offsets.entry.now; starts = starts.old; ids = ids.old; spans = spans.old }) pieces.new scores.new result }
+    ensures { Shapes settings target text.now kept.now counts.now words count required pieces.old scores.old keys.old ends.old (record { offsets = offsets.old; starts = starts.old; ids = ids.old; spans = spans.old }) pieces.new scores.new result }
 {
     let halves = 2 * words;
     let numbers = 2 * count;

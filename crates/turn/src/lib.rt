@@ -65,7 +65,7 @@ pub fn turn(
     ends: &mut [u32],
 ) -> Shrunk
     requires { Shrinking setting text.now words frequencies.now required count edges (record { pieces = pieces.now; scores = scores.old; offsets = offsets.old; starts = starts.old; ids = ids.old; spans = spans.old }) (length expected.old) (length bits.old) (length ranked.old) (length remap.old) (length keys.old) (length ends.old) }
-    ensures { Turns setting text.now words frequencies.now iterations required keep count edges (record { pieces = pieces.entry.now; scores = scores.old; offsets = offsets.old; starts = starts.old; ids = ids.old; spans = spans.old }) (record { pieces = pieces.exit.now; scores = scores.new; offsets = offsets.new; starts = starts.new; ids = ids.new; spans = spans.new }) result }
+    ensures { Turns setting text.now words frequencies.now iterations required keep count edges (record { pieces = pieces.old; scores = scores.old; offsets = offsets.old; starts = starts.old; ids = ids.old; spans = spans.old }) (record { pieces = pieces.new; scores = scores.new; offsets = offsets.new; starts = starts.new; ids = ids.new; spans = spans.new }) result }
 {
     let so = shrink(
         setting,
