@@ -105,8 +105,9 @@ def keep(crate, edit, said):
 
 
 def tried(crates):
-    """The edits of these crates that are refused: crate and name of each. What rt says is told as it comes."""
-    refused = set()
+    """The edits of these crates that are refused: crate and name of each. What rt says of an edit is told as it comes, and the end
+    of all that it says where it stopped before the edits."""
+    refused, heard = set(), []
     with tempfile.TemporaryDirectory(prefix="edits-") as room:
         lay(Path(room), crates)
         how = {"cwd": room, "stdin": subprocess.DEVNULL, "stdout": subprocess.PIPE, "stderr": subprocess.STDOUT, "text": True}
@@ -114,12 +115,15 @@ def tried(crates):
             for line in map(str.rstrip, running.stdout):
                 said = SAID.match(line)
                 if not said:
+                    heard = [*heard[-19:], line]
                     continue
                 crate, edit, what = said.groups()
                 print(f"edits: {crate}/{edit}: {what}", flush=True)
                 keep(crate, edit, what)
                 if what.startswith("refused, as it must be"):
                     refused.add((crate, edit))
+        if running.returncode and not refused:
+            print("\n".join(heard), file=sys.stderr)
     return refused
 
 
