@@ -2,14 +2,14 @@
 use mathlib.Core.Path.{◌≡◌, refl, sym, ap, ◌∙◌, subst}
 use mathlib.Core.Bool.{false}
 use mathlib.Core.List.{List}
-use Prim.Native.Nat.{ℕ, ◌+◌, ◌/◌, ◌≤◌, ◌<◌}
+use Prim.Native.Nat.{ℕ, ◌/◌, ◌≤◌, ◌<◌}
 use native.Mathlib.Nat.{le_refl}
 use native.Mathlib.Omega.{arith}
 use lib.ListN.{length}
 use lib.Ieee.{Float}
 use Rattle.keep.specs.Keep.{keep_of}
 use Rattle.fresh.specs.Build.{smaller}
-use Rattle.model.specs.Model.{Model, Task, improved, pruned_to, keep_next, stops, rounds, trained, improved_once}
+use Rattle.model.specs.Model.{Model, Task, improved, pruned_to, keep_next, stops, rounds}
 use Rattle.model.specs.Nodes.{nodes}
 use Rattle.model.specs.Loop.{Sound, Going, next}
 use Rattle.model.proofs.Kept.{stops_true, stops_false, improved_pieces}
@@ -19,7 +19,7 @@ use Rattle.shrink.specs.declared.Shrunk.{Shrunk}
 use Rattle.shrink.specs.At.{Slices, At, Fixed, Room}
 use Rattle.shrink.specs.Steps.{Shrinking}
 use Rattle.turn.specs.Steps.{Improving, Improves, Turns}
-use Rattle.rounds.specs.Steps.{Settled, Pruning, Prunes, Rounding, Rounds, Left}
+use Rattle.rounds.specs.Steps.{Settled, Pruning, Prunes, Rounding, Rounds}
 use Rattle.turn.proofs.Improved.{at_count, improving, improved_at, improved_last}
 
 -- the slots of all slices

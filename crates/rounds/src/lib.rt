@@ -2,6 +2,8 @@
 //
 // 001 runs EM at the head of its loop and leaves it in the middle. Here EM comes before the loop and at the end of its body,
 // which is the same. A list that is not over target is kept whole, so that one test, "not below the piece count", ends both.
+#![tactic(auto)]
+
 ghost use Rattle.std.specs.Prelude.{length};
 ghost use Rattle.rounds.specs.Steps.{Pruning, Prunes, Rounding, Rounds};
 
