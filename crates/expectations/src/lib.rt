@@ -26,6 +26,7 @@ fn above(hi: f64, lo: f64) -> f64
 }
 
 // ln(e^a + e^b), stable when either side is very small or absent.
+#[tactic(auto, unfolding(crate::specs::LogAdd::log_add))]
 pub fn log_add(a: f64, b: f64) -> f64
     ensures { result ≡ log_add a b }
 {
