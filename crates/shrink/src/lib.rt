@@ -38,7 +38,7 @@ fn weigh(
     ends: &mut [u32],
 )
     requires { Weighing setting text.now words frequencies.now (record { pieces = pieces.now; scores = scores.now; offsets = offsets.now; starts = starts.now; ids = ids.now; spans = spans.now }) (length used.old) (length bits.old) (length keys.old) (length ends.old) }
-    ensures { Weighed setting text.now words frequencies.now (record { pieces = pieces.entry.now; scores = scores.now; offsets = offsets.now; starts = starts.now; ids = ids.now; spans = spans.now }) bits.new }
+    ensures { Weighed setting text.now words frequencies.now (record { pieces = pieces.now; scores = scores.now; offsets = offsets.now; starts = starts.now; ids = ids.now; spans = spans.now }) bits.new }
 {
     let places = fresh::smaller(fresh::smaller(keys.len(), ends.len()), 4294967295);
     fresh::index_front(keys, ends, places, text, pieces);
@@ -80,7 +80,7 @@ fn narrow(
     spans: &mut [u32],
 ) -> Shrunk
     requires { (text : List ℕ) × Narrowing text words required (record { pieces = pieces.now; scores = scores.old; offsets = offsets.old; starts = starts.old; ids = ids.old; spans = spans.old }) bits.old (length ranked.old) (length remap.old) }
-    ensures { (text : List ℕ) → Narrowed text words required keep (record { pieces = pieces.entry.now; scores = scores.old; offsets = offsets.old; starts = starts.old; ids = ids.old; spans = spans.old }) bits.old (record { pieces = pieces.exit.now; scores = scores.new; offsets = offsets.new; starts = starts.new; ids = ids.new; spans = spans.new }) result }
+    ensures { (text : List ℕ) → Narrowed text words required keep (record { pieces = pieces.old; scores = scores.old; offsets = offsets.old; starts = starts.old; ids = ids.old; spans = spans.old }) bits.old (record { pieces = pieces.new; scores = scores.new; offsets = offsets.new; starts = starts.new; ids = ids.new; spans = spans.new }) result }
 {
     let left = survivors(bits, required, keep, ranked, remap);
     compact_pieces(pieces, remap);
@@ -116,7 +116,7 @@ pub fn shrink(
     ends: &mut [u32],
 ) -> Shrunk
     requires { Shrinking setting text.now words frequencies.now required count edges (record { pieces = pieces.now; scores = scores.old; offsets = offsets.old; starts = starts.old; ids = ids.old; spans = spans.old }) (length used.old) (length bits.old) (length ranked.old) (length remap.old) (length keys.old) (length ends.old) }
-    ensures { Shrinks setting text.now words frequencies.now required keep count edges (record { pieces = pieces.entry.now; scores = scores.old; offsets = offsets.old; starts = starts.old; ids = ids.old; spans = spans.old }) (record { pieces = pieces.exit.now; scores = scores.new; offsets = offsets.new; starts = starts.new; ids = ids.new; spans = spans.new }) result }
+    ensures { Shrinks setting text.now words frequencies.now required keep count edges (record { pieces = pieces.old; scores = scores.old; offsets = offsets.old; starts = starts.old; ids = ids.old; spans = spans.old }) (record { pieces = pieces.new; scores = scores.new; offsets = offsets.new; starts = starts.new; ids = ids.new; spans = spans.new }) result }
 {
     let numbers = 2 * count;
     weigh(
