@@ -11,7 +11,7 @@ pub returns-then-frequency-gt-WEIGHT : goal.returns-then-frequency-gt-WEIGHT
 returns-then-frequency-gt-WEIGHT c = too_frequent c.args.weight c.args.frequency c.args.chars c.requires.0 c.if-chars-eq0.false c.if-frequency-gt-WEIGHT.true
 
 pub overflow_mul-sum : goal.overflow_mul-sum
-overflow_mul-sum c = omega (arith, product_fits c.args.frequency c.args.chars c.if-frequency-gt-WEIGHT.false c.requires.1)
+overflow_mul-sum c = omega (arith, product_fits c.args.frequency c.args.chars (omega arith) c.requires.1)
 
 pub overflow_add-sum : goal.overflow_add-sum
-overflow_add-sum c = omega (arith, product_fits c.args.frequency c.args.chars c.if-frequency-gt-WEIGHT.false c.requires.1)
+overflow_add-sum c = omega (arith, product_fits c.args.frequency c.args.chars (omega arith) c.requires.1)
