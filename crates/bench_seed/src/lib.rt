@@ -4,6 +4,8 @@
 // that others link, and include/causeylark.h does not declare it. It answers as the calls of crate `export` do: 0 where there is
 // a list, and else the number of the refusal; in the lent slice `told` stands what more there is to tell. What a seed list is,
 // and which refusal comes when, `start::start` says, and this promises the same of what it is lent.
+#![tactic(auto)]
+
 ghost use Rattle.std.specs.Prelude.{◌≡◌, ◌*◌, set, take};
 ghost use Rattle.refusal.specs.Numbers.{number_of, place_of};
 ghost use Rattle.listing.specs.declared.Started as StartedOf;
