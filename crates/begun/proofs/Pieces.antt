@@ -7,7 +7,7 @@ use native.Mathlib.Omega.{arith}
 use lib.ListN.{length, take, length-append, length-take, length-map}
 use lib.Seq.{take-append-le}
 use lib.Ieee.{Float}
-use Rattle.spans.specs.Spans.{many, chars_at, listed}
+use Rattle.spans.specs.Spans.{many, chars_at}
 use Rattle.spans.specs.Check.{AllGood}
 use Rattle.settings.specs.declared.SeedSize.{SeedSize}
 use Rattle.settings.specs.declared.SeedSize.TheVariants.{Unset, Set}

@@ -1,3 +1,5 @@
+#![tactic(auto)]
+
 // From the seed list to the first round of training: document 01, port order 8 to 9.
 //
 // There is no code here. Crate `start` leaves words, pieces and scores in slices. specs/ says which task and which first model

@@ -1,13 +1,12 @@
 -- From a seed list in its slices to the first lattices, to the rounds and to what they leave. Assumes nothing.
 use mathlib.Core.Path.{◌≡◌, refl, sym, ap, ◌∙◌, subst}
-use mathlib.Core.List.{List, ◌++◌}
-use Prim.Native.Nat.{ℕ, ◌+◌, ◌*◌, ◌/◌, ◌≤◌, ◌<◌}
+use mathlib.Core.List.{List}
+use Prim.Native.Nat.{ℕ, ◌*◌, ◌/◌, ◌≤◌}
 use native.Mathlib.Omega.{arith}
 use lib.ListN.{length, take, replicate}
 use lib.Ieee.{Float}
 use Rattle.refusal.specs.declared.Refusal.{Refusal}
 use Rattle.settings.specs.declared.Settings.{Settings}
-use Rattle.spans.specs.Spans.{listed}
 use Rattle.lattice.specs.Lattice.{cache}
 use Rattle.ranking.specs.Seed.{counts}
 use Rattle.ranking.specs.Scores.{seed_scores}
@@ -17,8 +16,7 @@ use Rattle.fresh.specs.Steps.{InOrder, Follows}
 use Rattle.fresh.specs.declared.Built.{Built}
 use Rattle.fresh.specs.declared.Built.TheVariants.{Edges, Refused}
 use Rattle.model.specs.Model.{Model, Task, lattices}
-use Rattle.shrink.specs.At.{Slices, At, Room}
-use Rattle.shrink.proofs.Cut.{cut_long}
+use Rattle.shrink.specs.At.{Slices, At}
 use Rattle.rounds.specs.Steps.{Settled, Rounding, Rounds}
 use Rattle.begun.specs.First.{first_model, target_in, task_of, seed_texts, built_of, TrieFits, Unlaid}
 use Rattle.begun.specs.Here.{Here, lent_of}

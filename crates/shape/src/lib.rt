@@ -2,6 +2,8 @@
 //
 // Words and pieces were checked when the list was made. So of all refusals only two are left: "distinct non-empty prefixes plus
 // the root exceed half the lent trie places", and "first-round edges, offsets or a word's n+1 positions exceed their slots".
+#![tactic(auto)]
+
 ghost use Rattle.std.specs.Prelude.{length};
 ghost use Rattle.shape.specs.Steps.{Shaping, Shapes};
 
