@@ -1,9 +1,7 @@
 -- `frames::word` meets its contract.
 -- Assumes nothing.
 use Rattle.frames.proofs.Framed.{word_bad, word_good}
-use Prim.Native.Nat.{ℕ, ◌+◌}
 use native.Mathlib.Omega.{arith}
-use mathlib.Core.Path.{◌∙◌, sym, ap}
 use Rattle.frames.proofs.input.word.Goals as goal
 
 -- Assumes nothing.
@@ -11,7 +9,7 @@ pub returns-then-bytes-lt10 : goal.returns-then-bytes-lt10
 returns-then-bytes-lt10 c = word_bad c.args.bytes.now (λ e. omega (arith, e, c.if-bytes-lt10.true))
 
 pub returns-then-bytes-length : goal.returns-then-bytes-length
-returns-then-bytes-length c = word_bad c.args.bytes.now (λ e. c.if-bytes-length.true (e ∙ ap (λ (m : ℕ). 10 + m) (sym c.size-length.ensures.value)))
+returns-then-bytes-length c = word_bad c.args.bytes.now (λ e. omega (arith, e, c.size-length.ensures.value))
 
 pub returns : goal.returns
 returns c = word_good c.args.bytes.now c.eight-frequency.result c.size-length.result c.size-length.ensures.value c.if-bytes-length.false c.eight-frequency.ensures
