@@ -115,7 +115,7 @@ pub extern "C" fn bench_seed(
     table: &mut [u32],
     told: &mut [u64],
 ) -> u32
-    ensures { (r : StartedOf.Started) × Answers (record { settings = settings_of vocab_size flag seed max_piece_chars min_frequency em_iterations; texts = texts.now; specials = specials.now; text = text.now; words = take (2 * (count_of words.now frequencies.now)) words.now; frequencies = take (count_of words.now frequencies.now) frequencies.now }) (record { kept = kept.entry.now; counts = counts.old; chars = chars.old; places = places.old; order = order.old; work = work.old; ranks = ranks.old; pieces = pieces.old; tallies = tallies.old; scores = scores.old; table = table.old }) (record { kept = kept.exit.now; counts = counts.new; pieces = pieces.new; tallies = tallies.new; scores = scores.new }) r × (result ≡ started_number r) × (told.new ≡ started_told r told.old) }
+    ensures { (r : StartedOf.Started) × Answers (record { settings = settings_of vocab_size flag seed max_piece_chars min_frequency em_iterations; texts = texts.now; specials = specials.now; text = text.now; words = take (2 * (count_of words.now frequencies.now)) words.now; frequencies = take (count_of words.now frequencies.now) frequencies.now }) (record { kept = kept.old; counts = counts.old; chars = chars.old; places = places.old; order = order.old; work = work.old; ranks = ranks.old; pieces = pieces.old; tallies = tallies.old; scores = scores.old; table = table.old }) (record { kept = kept.new; counts = counts.new; pieces = pieces.new; tallies = tallies.new; scores = scores.new }) r × (result ≡ started_number r) × (told.new ≡ started_told r told.old) }
 {
     let started = start::start(
         settings(

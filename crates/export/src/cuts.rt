@@ -50,7 +50,7 @@ pub extern "C" fn causeylark_viterbi(
     sum: &mut [f64],
     told: &mut [u64],
 ) -> u32
-    ensures answers { (r : CutOf.Cut) × Answers (record { offsets = offsets.entry.now; starts = starts.now; ids = ids.now; n = n; scores = scores.now }) best.old back.old path.old path.new r × (result ≡ cut_number r) × (told.new ≡ set told.old 0 (cut_told r)) × (sum.new ≡ cut_sum r sum.old) }
+    ensures answers { (r : CutOf.Cut) × Answers (record { offsets = offsets.now; starts = starts.now; ids = ids.now; n = n; scores = scores.now }) best.old back.old path.old path.new r × (result ≡ cut_number r) × (told.new ≡ set told.old 0 (cut_told r)) × (sum.new ≡ cut_sum r sum.old) }
     ensures best_after { (best.new ≡ zero_floats (length best.old)) × (back.new ≡ zeros (length back.old)) }
 {
     match cut::viterbi(offsets, starts, ids, n, scores, best, back, path) {
@@ -87,7 +87,7 @@ pub extern "C" fn causeylark_viterbi_short(
     best: &mut [f64],
     back: &mut [u32],
 ) -> ByValue
-    ensures answers { (r : CutOf.Cut) × Answers (record { offsets = offsets.entry.now; starts = starts.now; ids = ids.now; n = n; scores = scores.now }) best.old back.old (zeros 32) result.ids r × (result.number ≡ cut_number r) × (result.told ≡ cut_told r) × (result.score ≡ short_score r) }
+    ensures answers { (r : CutOf.Cut) × Answers (record { offsets = offsets.now; starts = starts.now; ids = ids.now; n = n; scores = scores.now }) best.old back.old (zeros 32) result.ids r × (result.number ≡ cut_number r) × (result.told ≡ cut_told r) × (result.score ≡ short_score r) }
     ensures best_after { (best.new ≡ zero_floats (length best.old)) × (back.new ≡ zeros (length back.old)) }
 {
     let short = cut::viterbi_short(offsets, starts, ids, n, scores, best, back);
@@ -122,7 +122,7 @@ pub extern "C" fn causeylark_viterbi_excluding(
     sum: &mut [f64],
     told: &mut [u64],
 ) -> u32
-    ensures excludes { (r : ExcludedOf.Excluded) × Excludes (record { offsets = offsets.entry.now; starts = starts.now; ids = ids.now; n = n; scores = scores.now }) excluded best.old r × (result ≡ excluded_number r) × (told.new ≡ set told.old 0 (excluded_told r)) × (sum.new ≡ excluded_sum r sum.old) }
+    ensures excludes { (r : ExcludedOf.Excluded) × Excludes (record { offsets = offsets.now; starts = starts.now; ids = ids.now; n = n; scores = scores.now }) excluded best.old r × (result ≡ excluded_number r) × (told.new ≡ set told.old 0 (excluded_told r)) × (sum.new ≡ excluded_sum r sum.old) }
     ensures best_after { best.new ≡ zero_floats (length best.old) }
 {
     match cut::viterbi_excluding(offsets, starts, ids, n, scores, excluded, best) {
@@ -165,7 +165,7 @@ pub extern "C" fn causeylark_expectations(
     sum: &mut [f64],
     told: &mut [u64],
 ) -> u32
-    ensures expects { (r : ExpectedOf.Expected) × Expects (record { offsets = offsets.entry.now; starts = starts.now; ids = ids.now; n = n; scores = scores.now }) alpha.old beta.old emitted.old emitted.new r × (result ≡ expected_number r) × (told.new ≡ set told.old 0 (expected_told r)) × (sum.new ≡ expected_sum r sum.old) }
+    ensures expects { (r : ExpectedOf.Expected) × Expects (record { offsets = offsets.now; starts = starts.now; ids = ids.now; n = n; scores = scores.now }) alpha.old beta.old emitted.old emitted.new r × (result ≡ expected_number r) × (told.new ≡ set told.old 0 (expected_told r)) × (sum.new ≡ expected_sum r sum.old) }
     ensures alpha_after { (alpha.new ≡ zero_floats (length alpha.old)) × (beta.new ≡ zero_floats (length beta.old)) }
 {
     match cut::expectations(offsets, starts, ids, n, scores, alpha, beta, emitted) {
@@ -189,8 +189,8 @@ pub extern "C" fn causeylark_cut(
     sum: &mut [f64],
     told: &mut [u64],
 ) -> u32
-    ensures answers { (r : CutOf.Cut) × OneWord.Answers (record { setting = setting; word = word.now; spellings = spellings.now; pieces = pieces.now; scores = scores.now }) (record { keys = keys.entry.now; ends = ends.old; table = table.old }) path.old path.new r × (result ≡ cut_number r) × (told.new ≡ set told.old 0 (cut_told r)) × (sum.new ≡ cut_sum r sum.old) }
-    ensures zeros { OneWord.Zeros (record { keys = keys.entry.now; ends = ends.old; table = table.old }) (record { keys = keys.exit.now; ends = ends.new; table = table.new }) }
+    ensures answers { (r : CutOf.Cut) × OneWord.Answers (record { setting = setting; word = word.now; spellings = spellings.now; pieces = pieces.now; scores = scores.now }) (record { keys = keys.old; ends = ends.old; table = table.old }) path.old path.new r × (result ≡ cut_number r) × (told.new ≡ set told.old 0 (cut_told r)) × (sum.new ≡ cut_sum r sum.old) }
+    ensures zeros { OneWord.Zeros (record { keys = keys.old; ends = ends.old; table = table.old }) (record { keys = keys.new; ends = ends.new; table = table.new }) }
 {
     match one_word::cut(
         setting, word, spellings, pieces, scores, path, keys, ends, table,

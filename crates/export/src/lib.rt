@@ -93,7 +93,7 @@ pub extern "C" fn causeylark_build(
     table: &mut [u32],
     told: &mut [u64],
 ) -> u32
-    ensures { (r : BuiltOf.Built) × Answers (record { setting = setting; text = text.now; words = words.now; spellings = spellings.now; pieces = pieces.now }) (record { offsets = offsets.entry.now; starts = starts.old; ids = ids.old; spans = spans.old }) (record { keys = keys.entry.now; ends = ends.old; table = table.old }) (record { offsets = offsets.exit.now; starts = starts.new; ids = ids.new; spans = spans.new }) r × Zeros (record { keys = keys.entry.now; ends = ends.old; table = table.old }) (record { keys = keys.exit.now; ends = ends.new; table = table.new }) × (result ≡ built_number r) × (told.new ≡ set told.old 0 (built_told r)) }
+    ensures { (r : BuiltOf.Built) × Answers (record { setting = setting; text = text.now; words = words.now; spellings = spellings.now; pieces = pieces.now }) (record { offsets = offsets.old; starts = starts.old; ids = ids.old; spans = spans.old }) (record { keys = keys.old; ends = ends.old; table = table.old }) (record { offsets = offsets.new; starts = starts.new; ids = ids.new; spans = spans.new }) r × Zeros (record { keys = keys.old; ends = ends.old; table = table.old }) (record { keys = keys.new; ends = ends.new; table = table.new }) × (result ≡ built_number r) × (told.new ≡ set told.old 0 (built_told r)) }
 {
     match cache::build(
         setting, text, words, spellings, pieces, offsets, starts, ids, spans, keys, ends, table,
