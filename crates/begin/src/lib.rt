@@ -1,6 +1,8 @@
 // The seed list, and zeros in the slices that only seeding needs. "Work slices hold zeros after every call, accepted or refused".
 //
 // It is a crate of its own, apart from `training`, since the prover's cost is slices: each of the two has many.
+#![tactic(auto)]
+
 ghost use Rattle.std.specs.Prelude.{◌≡◌, ◌*◌, length, take, replicate};
 ghost use Rattle.listing.specs.Start.{count_of};
 ghost use Rattle.fresh.specs.Build.{smaller};
