@@ -1,6 +1,5 @@
 -- From the pieces that are left to the tokens, and what each refusal says. Assumes nothing.
 use mathlib.Core.Path.{◌≡◌, refl, sym, ap, ◌∙◌, subst}
-use mathlib.Core.Bool.{Bool}
 use mathlib.Core.List.{List, [], ◌∷◌, ◌++◌, map}
 use Prim.Native.Nat.{ℕ, zero, suc, ◌+◌, ◌*◌, ◌/◌, ◌≤◌, ◌<◌}
 use native.Mathlib.Omega.{arith}
@@ -8,21 +7,20 @@ use lib.Dec.{ltb}
 use lib.ListN.{length, take}
 use lib.Ieee.{Float}
 use Rattle.refusal.specs.declared.Refusal.{Refusal}
-use Rattle.refusal.specs.declared.Refusal.TheVariants.{NoRoom, VocabTooSmall}
+use Rattle.refusal.specs.declared.Refusal.TheVariants.{VocabTooSmall}
 use Rattle.settings.specs.declared.Settings.{Settings}
 use Rattle.settings.specs.Settings.{target_of}
-use Rattle.utf8.specs.Chars.{chars_of}
 use Rattle.utf8.specs.Encode.{spelling}
-use Rattle.spans.specs.Spans.{many, octets, chars_at, first, listed}
+use Rattle.spans.specs.Spans.{many, octets, chars_at, first}
 use Rattle.spans.specs.Check.{AllGood}
 use Rattle.trie.proofs.Same.{length_first}
 use Rattle.listing.specs.Start as start
 use Rattle.fresh.specs.Build as fresh
-use Rattle.model.specs.Model.{Model, Task, trained, stalled}
+use Rattle.model.specs.Model.{Model, stalled}
 use Rattle.model.proofs.Theorems.{trained_pieces, rounds_fewer}
 use Rattle.shrink.proofs.Cut.{cut_long}
 use Rattle.rounds.specs.Steps.{Left}
-use Rattle.begun.specs.First.{first_model, target_in, task_of, seed_texts, TrieFits, Unlaid}
+use Rattle.begun.specs.First.{first_model, target_in, task_of, seed_texts}
 use Rattle.begun.specs.Here.{Here, lent_of}
 use Rattle.begun.proofs.Pieces as pieces
 use Rattle.begun.proofs.First as begun
@@ -30,7 +28,7 @@ use Rattle.shape.specs.Steps.{Shaping, Shapes, ShapesTo}
 use Rattle.shape.specs.declared.Shaped.{Shaped}
 use Rattle.shape.specs.declared.Shaped.TheVariants.{Pieces, Refused as Unshaped}
 use Rattle.tokens.specs.Tokens as tokens
-use Rattle.make.specs.Make.{Results, final, token_bytes, token_scores, Late, too_small, unlaid, no_results, Made}
+use Rattle.make.specs.Make.{Results, final, token_bytes, token_scores, Late, too_small, unlaid, no_results}
 use Rattle.make.specs.Steps.{Concludes, Making, MakesTo}
 use Rattle.make.specs.declared.Trained.{Trained}
 use Rattle.make.specs.declared.Trained.TheVariants.{Tokens, Refused}

@@ -1,5 +1,7 @@
 // From the seed list to the tokens. Document 01's refusals 8, then 7 at 2, 3 and 4; and port order 11: "Specials come first, score
 // 0."
+#![tactic(auto)]
+
 ghost use Rattle.std.specs.Prelude.{length};
 ghost use Rattle.tokens.specs.Tokens.{Given, tokens_of, scores_of};
 ghost use Rattle.make.specs.Steps.{Concludes, Making, Makes};
