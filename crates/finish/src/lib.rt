@@ -1,5 +1,7 @@
 // What follows a start, if there is a seed list: the tokens, or a refusal; and zeros in the work slices of it. "Work slices hold
 // zeros after every call, accepted or refused".
+#![tactic(auto)]
+
 ghost use Rattle.std.specs.Prelude.{◌≡◌, length, replicate};
 ghost use Rattle.finish.specs.Steps.{nought, GoingOn, GoesOn};
 

@@ -1,6 +1,8 @@
 // What follows a start: the tokens, if there is a seed list, else the refusal.
 //
 // It is a crate of its own, apart from `finish`, since the prover's cost is slices: each of the two has many.
+#![tactic(auto)]
+
 ghost use Rattle.std.specs.Prelude.{length};
 ghost use Rattle.go_on.specs.Steps.{Ready, Follows};
 
