@@ -1,10 +1,10 @@
 #!/usr/bin/env python3
-"""Tries the edits of crates/NAME/must-fail/more: the prover must refuse each.
+"""Tries the edits of crates/NAME/must-fail-more: the prover must refuse each.
 
     python3 tools/edits.py [NAME...]        all crates that have such edits, or those named
     python3 tools/edits.py --fit            only whether each edit fits its crate, which takes no time
 
-`rt ci` tries the edits that stand right in must-fail/. These are more than a gate has the time for. They are tried here, by `rt
+`rt ci` tries the edits of crates/NAME/must-fail. These are more than a gate has the time for. They are tried here, by `rt
 must-fail`, in a copy of the repository outside the checkout, where they stand right in must-fail/ in the place of the others. It
 begins with what `rt check` kept of the crates in this checkout, or in another on this machine, and tries again only what has changed.
 
@@ -22,7 +22,7 @@ import time
 from pathlib import Path
 
 ROOT = Path(__file__).resolve().parent.parent
-MORE = "must-fail/more"
+MORE = "must-fail-more"
 # What rt says of an edit: its crate and name, and what came of it.
 SAID = re.compile(r"(?:rt: )?must-fail (\w+)/(\S+)\.edit: (.*)")
 
@@ -89,7 +89,7 @@ def lay(folder, crates):
     shutil.copy(ROOT / "crates.txt", folder)
     if (ROOT / "HANDLES").is_file():
         shutil.copy(ROOT / "HANDLES", folder)
-    shutil.copytree(ROOT / "crates", folder / "crates", ignore=shutil.ignore_patterns("out", "must-fail"))
+    shutil.copytree(ROOT / "crates", folder / "crates", ignore=shutil.ignore_patterns("out", "must-fail*"))
     for crate in crates:
         tried = folder / "crates" / crate / "must-fail"
         tried.mkdir()
@@ -128,7 +128,7 @@ def tried(crates):
 
 
 def main():
-    every = sorted({path.parents[MORE.count("/") + 1].name for path in ROOT.glob(f"crates/*/{MORE}/*.edit")})
+    every = sorted({path.parent.parent.name for path in ROOT.glob(f"crates/*/{MORE}/*.edit")})
     if sys.argv[1:] == ["--fit"]:
         sys.exit(not fit(every))
     named = sys.argv[1:] or every

@@ -6,6 +6,8 @@
 //
 // This is a library of its own, since what costs the prover is slices, and this call is lent the most of all. A program that
 // calls both links both. include/causeylark.h declares it for C, and bindings/rust for Rust.
+#![tactic(auto)]
+
 ghost use Rattle.std.specs.Prelude.{◌≡◌, ◌*◌, set, take};
 ghost use Rattle.refusal.specs.Numbers.{number_of, place_of};
 ghost use Rattle.listing.specs.Start.{count_of};
