@@ -1,13 +1,10 @@
 -- From the stages to training whole. Assumes nothing.
-use mathlib.Core.Path.{◌≡◌, refl, sym, ap, ◌∙◌, subst}
-use mathlib.Core.Bool.{Bool}
-use mathlib.Core.List.{List, ◌++◌}
-use Prim.Native.Nat.{ℕ, ◌*◌, ◌≤◌}
+use mathlib.Core.Path.{◌≡◌, refl, sym, subst}
+use mathlib.Core.List.{List}
+use Prim.Native.Nat.{ℕ}
 use native.Mathlib.Omega.{arith}
-use lib.ListN.{length, take, drop, length-take}
+use lib.ListN.{length, length-take}
 use lib.Ieee.{Float}
-use Rattle.refusal.specs.declared.Refusal.{Refusal}
-use Rattle.settings.specs.declared.Settings.{Settings}
 use Rattle.listing.specs.Start as start
 use Rattle.listing.specs.declared.Started.{Started}
 use Rattle.listing.specs.declared.Started.TheVariants.{Seeded, Refused as Unstarted}
@@ -15,12 +12,12 @@ use Rattle.fresh.specs.Build as fresh
 use Rattle.fresh.proofs.Building.{smaller_is}
 use Rattle.begun.specs.First.{seed_texts}
 use Rattle.begun.specs.Here.{Begun}
-use Rattle.make.specs.Make.{Results, Late, Made}
+use Rattle.make.specs.Make.{Results, Made}
 use Rattle.make.specs.Steps.{MakesTo}
 use Rattle.make.specs.declared.Trained.{Trained}
 use Rattle.make.specs.declared.Trained.TheVariants.{Tokens, Refused}
-use Rattle.finish.specs.Steps.{GoingOn, GoesTo, GoesOn}
-use Rattle.training.specs.Train.{Work, seeding_work, cache_slots, Seeds, Why, early, later, Gives, Answers}
+use Rattle.finish.specs.Steps.{GoingOn, GoesTo}
+use Rattle.training.specs.Train.{Work, seeding_work, cache_slots, Seeds, early, later, Answers}
 
 module _ (x : start.Lent) (w : Work) (kept counts pieces : List ℕ) (scores : List Float) (started : Started) (b : Begun x (seeding_work w) kept counts pieces scores started) where
   -- ---- what follows is lent the slices that `start` was lent

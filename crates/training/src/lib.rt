@@ -2,6 +2,8 @@
 //
 // "Training checks in this order": 2, 7 at 0, 3, 4, 5, 6 and 7 at 1 in crate `begin`, then 8, 7 at 2, 3 and 4. "Work slices hold
 // zeros after every call, accepted or refused": each stage clears what no later stage needs.
+#![tactic(auto)]
+
 ghost use Rattle.std.specs.Prelude.{◌*◌, take};
 ghost use Rattle.listing.specs.Start.{count_of};
 ghost use Rattle.training.specs.Train.{Answers, Zeros};
