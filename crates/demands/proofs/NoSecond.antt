@@ -1,5 +1,5 @@
 -- "Prove that no second outcome fits": training has one answer, and leaves one thing in the result slices. Assumes nothing.
-use mathlib.Core.Path.{◌≡◌, refl, sym, ap, ◌∙◌, subst}
+use mathlib.Core.Path.{◌≡◌, refl, sym, ap, subst}
 use mathlib.Core.Bool.{Bool}
 use mathlib.Core.List.{List}
 use Prim.Native.Nat.{ℕ, ◌≤◌, ◌<◌}
@@ -24,7 +24,7 @@ use Rattle.begun.specs.First.{Unlaid, no_trie, no_cache}
 use Rattle.make.specs.Make.{Results, Late, too_small, unlaid, no_results, Made}
 use Rattle.make.specs.declared.Trained.{Trained}
 use Rattle.make.specs.declared.Trained.TheVariants.{Tokens, Refused}
-use Rattle.training.specs.Train.{Work, seeding_work, cache_slots, Seeds, Refuses, Why, early, later, Gives, Answers, Zeros}
+use Rattle.training.specs.Train.{Work, seeding_work, cache_slots, Seeds, Why, early, later, Gives, Answers, Zeros}
 
 -- ---- the seed list: there is one, or `start` has refused
 module _ (x : start.Lent) where

@@ -1,5 +1,5 @@
 -- The lattices that the rounds carry stay in step with the pieces. Assumes nothing.
-use mathlib.Core.Path.{◌≡◌, refl, sym, ap, ◌∙◌, subst}
+use mathlib.Core.Path.{◌≡◌, sym, ap, ◌∙◌, subst}
 use mathlib.Core.List.{List}
 use Prim.Native.Nat.{ℕ, ◌≤◌, max}
 use native.Mathlib.Omega.{arith}

@@ -15,7 +15,7 @@ use Rattle.fresh.specs.Build as fresh
 use Rattle.model.specs.Model.{Model, Task}
 use Rattle.begun.specs.First.{Unlaid, no_trie, no_cache}
 use Rattle.make.specs.Make.{Results, Late, too_small, unlaid, no_results}
-use Rattle.training.specs.Train.{Work, seeding_work, cache_slots, Why, early, later}
+use Rattle.training.specs.Train.{Work, seeding_work, Why, early, later}
 use Rattle.demands.specs.Demands.{InTable}
 
 module _ (x : start.Lent) where

@@ -1,3 +1,5 @@
+#![tactic(auto)]
+
 // The demands upon the whole, as theorems.
 //
 // There is no code here. proofs/NoSecond.antt says that no second outcome of training fits its contract. proofs/Demands.antt is
