@@ -43,7 +43,7 @@ fn prune_on(
         edges,
     };
     let mut keep = keep::keep(count, factor, target);
-    while keep < so.pieces {
+    'pruning: while keep < so.pieces {
         so = turn(
             setting,
             text,
