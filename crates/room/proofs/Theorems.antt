@@ -1,10 +1,10 @@
 -- From the lines of an input to what training is lent, and to the program's answer. Assumes nothing.
-use mathlib.Core.Path.{◌≡◌, refl, sym, ap, ap₂, ◌∙◌, subst}
-use mathlib.Core.Bool.{Bool, true, false}
+use mathlib.Core.Path.{◌≡◌, refl, ap, ap₂, ◌∙◌, subst}
+use mathlib.Core.Bool.{Bool, false}
 use mathlib.Core.List.{List, [], ◌∷◌, ◌++◌}
 use Prim.Native.Nat.{ℕ, ◌*◌, ◌≤◌}
 use native.Mathlib.Omega.{arith}
-use lib.ListN.{length, take}
+use lib.ListN.{length}
 use lib.Seq.{take_all}
 use Rattle.laws.proofs.Choices.{cond_cases}
 use Rattle.lattice.specs.Layout.{joined}
@@ -14,10 +14,10 @@ use Rattle.settings.specs.declared.Settings.{Settings}
 use Rattle.frames.specs.declared.input.Frame.{Frame}
 use Rattle.frames.specs.declared.input.Frame.TheVariants.{Settings as First, Special, Word, Count, Bad}
 use Rattle.frames.specs.Order.{IsSpecial, IsWord, All, InOrder}
-use Rattle.stored.specs.Stored.{Tables, tables, nothing, fits, has_room, with_special, with_word, store_of}
+use Rattle.stored.specs.Stored.{Tables, tables, nothing, fits, has_room, store_of}
 use Rattle.listing.specs.Start.{Lent, count_of}
 use Rattle.lines.specs.Lines.{line_bytes, line_frame}
-use Rattle.lines.specs.Said.{words_in, frequencies_in, specials_in, Room, Words}
+use Rattle.lines.specs.Said.{words_in, frequencies_in, specials_in, Room}
 use Rattle.lines.proofs.Theorems.{frames_of, stored_by}
 use Rattle.lines.proofs.Said.{after, words_kept, specials_kept, text_lent, spans_lent, frequencies_lent}
 use Rattle.refusal.specs.declared.Refusal.TheVariants.{BadFrame}

@@ -3,6 +3,8 @@
 // Document 01: "The program `train` has room for 256 words, 8,192 word bytes, 1,024 pieces, 4,096 nodes, 8,192 edges, 8,704 offsets,
 // 65,536 result bytes; no other room runs short." The work slices stand here, and nothing of them is left behind. A node has two
 // places of the trie, and a word a span of the cache.
+#![tactic(auto)]
+
 ghost use Rattle.std.specs.Prelude.{◌≡◌, ◌*◌, min};
 ghost use Rattle.training.specs.Train.{Answers};
 ghost use Rattle.stored.specs.Stored.{tables};
