@@ -1,4 +1,4 @@
--- Slices that hold the lattices of a cache's words are a well_formed cache. Assumes nothing.
+-- Slices that hold the lattices of a cache's words are a well-formed cache. Assumes nothing.
 use mathlib.Core.Path.{◌≡◌, refl, sym, ap, ◌∙◌, subst}
 use mathlib.Core.List.{List, [], ◌∷◌, ◌++◌, map}
 use Prim.Native.Nat.{ℕ, suc, ◌+◌, ◌*◌, ◌≤◌}

@@ -1,4 +1,4 @@
--- The lattices that a well_formed cache's slices hold, read back word by word. Assumes nothing.
+-- The lattices that a well-formed cache's slices hold, read back word by word. Assumes nothing.
 use mathlib.Core.Path.{◌≡◌, refl, sym, ap, ap₂, ◌∙◌}
 use mathlib.Core.List.{List, [], ◌∷◌, ◌++◌, map, map-append}
 use Prim.Native.Nat.{ℕ, zero, suc, ◌+◌, ◌*◌, ◌≤◌, ◌<◌}

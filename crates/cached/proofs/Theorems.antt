@@ -37,7 +37,7 @@ module _ (starts ids ends spans : List ℕ) (pieces words : ℕ) where
   edges_begin : (f : Edge → ℕ) (xs : List ℕ) → Chain xs (edges_before spans) (part_of starts ids ends spans pieces f) 0 words → Begins xs (map f (joined (joined read_back)))
   edges_begin f xs chain = subst (Begins xs) (sym (edges_are starts ids ends spans pieces f words 0)) (chain_begins xs (edges_before spans) (part_of starts ids ends spans pieces f) words refl chain)
 
-  -- slices that are a well_formed cache hold a lattice for each word
+  -- slices that are a well-formed cache hold a lattice for each word
   pub well_formed_holds : CacheFormed starts ids ends spans pieces words → Held starts ids ends spans pieces words read_back
   well_formed_holds formed =
       record {
@@ -52,7 +52,7 @@ module _ (starts ids ends spans : List ℕ) (pieces words : ℕ) where
       all : All starts ids ends spans pieces 0 words
       all w a b = formed w (omega arith)
 
-  -- and slices that hold a lattice for each word are a well_formed cache
+  -- and slices that hold a lattice for each word are a well-formed cache
   module _ (lattices : List (List (List Edge))) (same : length starts ≡ length ids) (held : Held starts ids ends spans pieces words lattices) where
     rest : Rest starts ids ends spans pieces same lattices 0 0 0
     rest = record { edges_before_lem = refl; offsets_before_lem = refl; by_start = begins_front starts _ held.starts_are; by_id = begins_front ids _ held.ids_are; by_end = begins_front ends _ held.ends_are; by_span = begins_front spans _ held.spans_are }

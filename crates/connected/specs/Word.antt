@@ -2,7 +2,7 @@
 use Rattle.std.specs.Prelude.{List, ℕ, ◌+◌, ◌≤◌, ◌<◌, length, get_or}
 use Rattle.formed.specs.Word.{WordFormed}
 
--- offsets and starts of a well_formed lattice, whatever its ids are
+-- offsets and starts of a well-formed lattice, whatever its ids are
 pub record Linked (offsets starts : List ℕ) (n : ℕ) : Type 0 where
   pub ids : List ℕ
   pub pieces : ℕ

@@ -29,7 +29,7 @@ one_pass lattices frequencies scores one other p q = one_outcome p q
 pub one_round : (lattices : List (List (List Edge))) (frequencies : List ℕ) (iterations : ℕ) (scores one other : List Float) → one ≡ em_many lattices frequencies iterations scores → other ≡ em_many lattices frequencies iterations scores → one ≡ other
 one_round lattices frequencies iterations scores one other p q = one_outcome p q
 
--- ---- "no connection": the test says whether a well_formed lattice has a cut
+-- ---- "no connection": the test says whether a well-formed lattice has a cut
 pub skips_the_unconnected : (offsets starts ids : List ℕ) (pieces n : ℕ) → WordFormed offsets starts ids pieces n → Says (connects offsets starts n) (Connected offsets starts n)
 skips_the_unconnected offsets starts ids pieces n w = connects_says offsets starts w
 

@@ -1,4 +1,4 @@
--- The lattice that a well_formed one's slices hold, read back row by row. Assumes nothing.
+-- The lattice that a well-formed one's slices hold, read back row by row. Assumes nothing.
 use mathlib.Core.Path.{◌≡◌, refl, sym, ap, ap₂, ◌∙◌, subst}
 use mathlib.Core.List.{List, [], ◌∷◌, ◌++◌, map}
 use Prim.Native.Nat.{ℕ, zero, suc, ◌+◌, ◌-◌, ◌≤◌, ◌<◌}

@@ -1,4 +1,4 @@
--- What a well_formed lattice gives the loops and the theorem. Assumes nothing.
+-- What a well-formed lattice gives the loops and the theorem. Assumes nothing.
 use mathlib.Core.Path.{◌≡◌, ap, subst}
 use mathlib.Core.List.{List}
 use Prim.Native.Nat.{ℕ, zero, suc, ◌+◌, ◌-◌, ◌≤◌, ◌<◌}

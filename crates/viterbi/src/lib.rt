@@ -1,7 +1,7 @@
 // The best cut of one word, over its lattice in exact slices: document 01, port order 7.
 //
 // `path_core`, `viterbi_core` and `short_core` are 000's `viterbi`, `excluding_core` is its `viterbi_excluding`. They take what
-// callers have checked: a well_formed lattice and room. `path_core` takes any scores, as 000 does. The others that give a path
+// callers have checked: a well-formed lattice and room. `path_core` takes any scores, as 000 does. The others that give a path
 // take scores at zero or below, and say what their answer means: a cut that wins, said of cuts alone, in the crate `scores`.
 // The forward pass is one pass over the edges, ends rising. The walk back goes twice, to count and then to write from the end,
 // so that nothing is turned round afterwards.
