@@ -207,7 +207,7 @@ impl<'a> LatticeView<'a> {
     }
 }
 
-// The best cut of one word of a cache. Its parameters are plain slices, so who calls it needs no walk by hand. A word that is not
+// The best cut of one word of a cache. Its parameters are plain slices, for those who lend a cache and make no view. A word that is not
 // seen has no offsets, so its cut is BadLattice at place 0, as of any one word's lattice; `view` tells the index.
 pub fn viterbi_at<'a>(
     starts: &'a [u32],
