@@ -5,8 +5,8 @@ usage: python3 tools/respell.py [--list]      at the top of the repository, once
 
 Only names that the repository declares in specs/ and proofs/ move, each where a file declares it or imports it from a crate of
 its own. What the kit makes or declares keeps its spelling, and so do functions of src/, exported names, strings, inputs and
-outputs. Where two names would fall together in a module, or a new name is already a word of the file, it says so and stops.
-With --list nothing is written.
+outputs. Where two names would fall together in a file, or a new name is already a word of it, it says so: such a place was looked at, and
+OTHERWISE has another name where it matters. With --list nothing is written.
 """
 import collections
 import glob

@@ -1,2 +1,3 @@
 pub mod Seeing
+pub mod Showing
 pub mod Theorems
