@@ -8,7 +8,8 @@ ghost use Rattle.listing.specs.Start.{count_of};
 ghost use Rattle.fresh.specs.Build.{smaller};
 ghost use Rattle.begun.specs.Here.{Begun};
 
-use listing::Started;
+use listing::{Lent, Seeded};
+use refusal::Refusal;
 use settings::Settings;
 
 // The seed list. The slices that only seeding needs hold zeros afterwards. A piece needs a slot of EM's, too.
@@ -31,19 +32,22 @@ pub fn begin(
     tallies: &mut [u64],
     scores: &mut [f64],
     slots: usize,
-) -> Started
+) -> Result<Seeded, Refusal>
     ensures begun { Begun (record { settings = settings; texts = texts.now; specials = specials.now; text = text.now; words = take (2 * (count_of words.now frequencies.now)) words.now; frequencies = take (count_of words.now frequencies.now) frequencies.now }) (record { kept = kept.old; counts = counts.old; chars = chars.old; places = places.old; order = order.old; work = work.old; ranks = ranks.old; pieces = pieces.old; tallies = tallies.old; scores = take (smaller (length scores.old) slots) scores.old; table = table.old }) kept.new counts.new pieces.new scores.new result }
     ensures table_after { (table.new ≡ replicate (length table.old) 0) × (chars.new ≡ replicate (length chars.old) 0) }
     ensures places_after { (places.new ≡ replicate (length places.old) 0) × (tallies.new ≡ replicate (length tallies.old) 0) }
 {
-    let most = fresh::smaller(scores.len(), slots);
-    let started = start::start(
+    let most = scores.len().min(slots);
+    let lent = Lent {
         settings,
         texts,
         specials,
         text,
         words,
         frequencies,
+    };
+    let started = start::start(
+        &lent,
         kept,
         counts,
         chars,
@@ -56,10 +60,10 @@ pub fn begin(
         &mut scores[..most],
         table,
     );
-    slots::clear_numbers(table);
-    slots::clear_numbers(chars);
-    slots::clear_numbers(places);
-    slots::clear_keys(tallies);
+    table.fill(0);
+    chars.fill(0);
+    places.fill(0);
+    tallies.fill(0);
     started
 }
 
@@ -67,6 +71,6 @@ pub fn begin(
 pub fn clear_words(kept: &mut [u32], counts: &mut [u64])
     ensures { (kept.new ≡ replicate (length kept.old) 0) × (counts.new ≡ replicate (length counts.old) 0) }
 {
-    slots::clear_numbers(kept);
-    slots::clear_keys(counts);
+    kept.fill(0);
+    counts.fill(0);
 }

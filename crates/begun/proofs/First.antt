@@ -1,4 +1,5 @@
 -- The first lattices can be built, and what the rounds begin with is sound. Assumes nothing.
+use Rattle.std.specs.Prelude.{Ok, Err}
 use mathlib.Core.Path.{◌≡◌, refl, sym, ap, ◌∙◌, subst}
 use mathlib.Core.List.{List, ◌++◌}
 use Prim.Native.Nat.{ℕ, ◌+◌, ◌-◌, ◌*◌, ◌/◌, ◌≤◌}
@@ -14,13 +15,11 @@ use Rattle.lattice.specs.Lattice.{Edge, cache}
 use Rattle.lattice.specs.Layout.{flat}
 use Rattle.lattice.specs.Written.{over, Begins}
 use Rattle.inputs.specs.Inputs as inputs
-use Rattle.inputs.specs.declared.Checked.TheVariants.{Fine, Refused as NotFine}
 use Rattle.inputs.proofs.Theorems.{one_answer}
 use Rattle.listing.specs.Start.{Lent, Work, Left, Given, corpus}
 use Rattle.fresh.specs.Slots.{filled, Holds}
 use Rattle.fresh.specs.Build as fresh
 use Rattle.fresh.specs.Steps.{InOrder, Follows}
-use Rattle.fresh.specs.declared.Built.TheVariants.{Edges, Refused}
 use Rattle.model.specs.Model.{Model, lattices}
 use Rattle.model.specs.Nodes.{nodes}
 use Rattle.model.specs.Loop.{Sound}
@@ -78,7 +77,7 @@ module _ (x : Lent) (w : Work) (y : Left) (r count required : ℕ) (g : Given x 
   in_order h keys ends = (zeros, in_order_with h keys ends zeros room)
 
   -- so that its promise holds
-  pub accepted : required ≤ target_in x → (keys ends : List ℕ) (z z' : fresh.Results) (edges : ℕ) → Follows (built_of x y r count) z keys ends z' (Edges edges)
+  pub accepted : required ≤ target_in x → (keys ends : List ℕ) (z z' : fresh.Results) (edges : ℕ) → Follows (built_of x y r count) z keys ends z' (Ok edges)
       → fresh.Accepted (built_of x y r count) z (record { keys = keys; ends = ends; table = replicate (2 * count) 0 }) z' edges
   accepted h keys ends z z' edges f = f zeros (in_order_with h keys ends zeros room)
 
@@ -152,7 +151,7 @@ module _ (x : Lent) (w : Work) (y : Left) (r count required : ℕ) (g : Given x 
   not_refused : (v : fresh.Work) {refusal : Refusal} → fresh.Ordered (built_of x y r count) v
       → inputs.Why x.settings.max_piece_chars x.text (take (2 * r) y.kept) x.text (take (2 * count) y.pieces) v.table refusal → ⊥
   not_refused v {refusal} o n =
-      let e = one_answer x.settings.max_piece_chars x.text (take (2 * r) y.kept) x.text (take (2 * count) y.pieces) v.table Fine (NotFine refusal) o n in
+      let e = one_answer x.settings.max_piece_chars x.text (take (2 * r) y.kept) x.text (take (2 * count) y.pieces) v.table (Ok tt) (Err refusal) o n in
       let z : ◌≡◌ {A = ℕ} 0 1 = cc in
       lt_irrefl 0 (omega arith)
 
@@ -163,6 +162,6 @@ module _ (x : Lent) (w : Work) (y : Left) (r count required : ℕ) (g : Given x 
   unlaid z v o (fresh.no_cache _ t n) =
       no_cache (trie_fits v t) (subst (λ (l : List (List (List Edge))). fresh.CacheRoom l z → ⊥) lattices_are n)
 
-  pub refused : required ≤ target_in x → (keys ends : List ℕ) (z z' : fresh.Results) (refusal : Refusal) → Follows (built_of x y r count) z keys ends z' (Refused refusal)
+  pub refused : required ≤ target_in x → (keys ends : List ℕ) (z z' : fresh.Results) (refusal : Refusal) → Follows (built_of x y r count) z keys ends z' (Err refusal)
       → Unlaid (task_of x required) (first_model (corpus x) (seed_texts x.text y.pieces count)) keys ends z refusal × fresh.Unchanged z z'
   refused h keys ends z z' refusal f = let o = in_order_with h keys ends zeros room in let p = f zeros o in (unlaid z (record { keys = keys; ends = ends; table = zeros }) o p.0, p.1)

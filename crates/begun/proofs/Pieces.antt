@@ -1,4 +1,5 @@
 -- The seed list that the start of training leaves: how many pieces it has at most, and which. Assumes nothing.
+use Rattle.std.specs.Prelude.{Option, Some, None}
 use mathlib.Core.Path.{◌≡◌, refl, sym, ap, ◌∙◌, subst}
 use mathlib.Core.List.{List, ◌++◌}
 use Prim.Native.Nat.{ℕ, ◌+◌, ◌-◌, ◌*◌, ◌/◌, ◌≤◌, min, max}
@@ -9,8 +10,6 @@ use lib.Seq.{take-append-le}
 use lib.Ieee.{Float}
 use Rattle.spans.specs.Spans.{many, chars_at}
 use Rattle.spans.specs.Check.{AllGood}
-use Rattle.settings.specs.declared.SeedSize.{SeedSize}
-use Rattle.settings.specs.declared.SeedSize.TheVariants.{Unset, Set}
 use Rattle.settings.specs.Settings.{seed_of}
 use Rattle.settings.specs.Check.{SeedWithin}
 use Rattle.ranking.specs.Corpus.{Corpus, count as countIn}
@@ -52,9 +51,9 @@ module _ {corpus : Corpus} {setting least pool : ℕ} {texts : List (List ℕ)} 
       omega arith
 
 -- ---- "the larger of target and `seed_size` (or 16 times target)"
-pool_few : (seed : SeedSize) (target : ℕ) → SeedWithin seed → target ≤ 65536 → max target (seed_of seed target) ≤ 1048576
-pool_few (Set size) target h t = omega arith
-pool_few Unset target h t = omega arith
+pool_few : (seed : Option ℕ) (target : ℕ) → SeedWithin seed → target ≤ 65536 → max target (seed_of seed target) ≤ 1048576
+pool_few (Some size) target h t = omega arith
+pool_few None target h t = omega arith
 
 few : {n a b m : ℕ} → n ≤ max a b → a ≤ m → b ≤ m → n ≤ m
 few h k l = omega arith

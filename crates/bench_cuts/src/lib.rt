@@ -5,16 +5,16 @@
 // that others link, and include/causeylark.h does not declare them.
 #![tactic(auto)]
 
-ghost use Rattle.std.specs.Prelude.{◌≡◌, ◌++◌, ◌≤◌, ◌<◌, length, drop};
+ghost use Rattle.std.specs.Prelude.{◌≡◌, ◌++◌, ◌≤◌, ◌<◌, length, drop, Option, Float};
 ghost use Rattle.scores.specs.Table.{best as greatest};
 ghost use Rattle.scores.specs.Floats.{f64s};
 ghost use Rattle.formed.specs.Word.{WordFormed};
 ghost use Rattle.viterbi.specs.Slices.{lattice_of, without, WellFormed};
-ghost use Rattle.viterbi.specs.declared.Best.{Best};
 ghost use Rattle.viterbi.specs.Answers.{Asked, Behind, Answers};
 ghost use Rattle.expectations.specs.Sums as Sums;
 
 use expectations::expectations_core;
+use formed::Lattice;
 use viterbi::{excluding_core, viterbi_core};
 
 #[unsafe(no_mangle)]
@@ -33,7 +33,13 @@ pub extern "C" fn bench_expectations(
     ensures value { result ≡ Sums.expected_sum offsets.now starts.now ids.now scores.now n }
     ensures emitted_after { emitted.new ≡ Sums.expected_shares offsets.now starts.now ids.now scores.now n ++ drop (length starts.now) emitted.old }
 {
-    expectations_core(offsets, starts, ids, scores, alpha, beta, emitted, n)
+    let lattice = Lattice {
+        offsets,
+        starts,
+        ids,
+        n,
+    };
+    expectations_core(&lattice, scores, alpha, beta, emitted)
 }
 
 // How many pieces the best cut has, 0 where there is none. Their ids are in front of `path`.
@@ -50,11 +56,16 @@ pub extern "C" fn bench_viterbi(
 ) -> usize
     requires asked { Asked offsets.now starts.now ids.now scores.now best.old back.old n }
     requires n_in_bounds { n ≤ length path.old }
-    ensures answers { (found : Best) × Answers (lattice_of offsets.now starts.now ids.now scores.now) ids.now n path.old path.new found result }
+    ensures answers { (found : Option Float) × Answers (lattice_of offsets.now starts.now ids.now scores.now) ids.now n path.old path.new found result }
     ensures behind { Behind n best.old best.new × Behind n back.old back.new }
 {
-    let cutting = viterbi_core(offsets, starts, ids, scores, best, back, path, n);
-    cutting.count
+    let lattice = Lattice {
+        offsets,
+        starts,
+        ids,
+        n,
+    };
+    viterbi_core(&lattice, scores, best, back, path).count
 }
 
 #[unsafe(no_mangle)]
@@ -72,5 +83,11 @@ pub extern "C" fn bench_excluding(
     ensures value { result ≡ greatest f64s (lattice_of offsets.now starts.now ids.now (without excluded scores.now)) n }
     ensures behind { Behind n best.old best.new }
 {
-    excluding_core(offsets, starts, ids, scores, excluded, best, n)
+    let lattice = Lattice {
+        offsets,
+        starts,
+        ids,
+        n,
+    };
+    excluding_core(&lattice, scores, excluded, best)
 }

@@ -72,6 +72,12 @@ module _ (setting : ℕ) (grid : List ℕ) where
   pub count_next : (k : ℕ) → length (joined (up_to (k + 1))) ≡ length (joined (up_to k)) + length (ending_in setting grid k)
   count_next k = ap (λ (j : ℕ). length (joined (up_to j))) (add-one k) ∙ count_more (ending_in setting grid) k
 
+  pub count_all : (n end : ℕ) {count more : ℕ} → end ≤ n → n ≤ end → count ≡ length (joined (up_to end)) → more ≡ length (ending_in setting grid end) → count + more ≡ length (joined (lattice_in setting grid n))
+  count_all n end g h a b =
+      let e : end ≡ n = omega arith in
+      let c = count_more (ending_in setting grid) end in
+      omega (arith, ap (λ (j : ℕ). length (joined (up_to (suc j)))) e)
+
   pub lower : {n k : ℕ} → Grid grid setting n → k ≤ n → Grid grid setting k
   lower g h = let r = g.rows in let f = g.few in record { rows = omega arith; few = omega arith; narrow = g.narrow }
 

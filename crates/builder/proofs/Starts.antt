@@ -7,6 +7,10 @@ use Prim.Native.Nat.{ℕ, zero, suc, ◌+◌, ◌-◌, ◌≤◌, ◌<◌}
 use native.Mathlib.Decide.{dec_lt}
 use native.Mathlib.Omega.{arith}
 use native.Mathlib.Numerals.{add-one}
+use mathlib.Core.Bool.{Bool, not}
+use Rattle.std.proofs.Common.{ne_eqb}
+use mir.Val.{bool_byte}
+use lib.Dec.{eqb}
 use lib.ListN.{length, length-append}
 use borrow.Author.Tests.{le-leb, lt-leb}
 use Rattle.lattice.specs.Lattice.{Edge, edge, starting}
@@ -34,6 +38,11 @@ module _ (f : ℕ → Option ℕ) where
   pub starting_none : (n : ℕ) → ((k : ℕ) → k < n → f k ≡ none) → starting f n ≡ []
   starting_none zero h = refl
   starting_none (suc n) h = ap₂ (λ (a : List Edge) (o : Option ℕ). a ++ edge n o) (starting_none n (λ k l. h k (omega arith))) (h n (omega arith))
+
+-- a number of the grid is one edge, or none
+pub one_is : (found : ℕ) {one : ℕ} → one ≡ bool_byte (not (eqb found 0)) → (one ≡ length (edge 0 (piece_of found))) × (one ≤ 1)
+one_is zero e = (e, omega arith)
+one_is (suc id) e = let f = e ∙ ap (λ (b : Bool). bool_byte (not b)) (ne_eqb (suc id) 0 (λ z. absurd (omega arith))) in (f, omega arith)
 
 -- below the lowest start nothing reaches the end; from it on, the grid tells
 module _ (setting : ℕ) (grid : List ℕ) (end : ℕ) where

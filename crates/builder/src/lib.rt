@@ -8,37 +8,38 @@
 // `count_words` counts what `build_words` will put, since nothing may be written where there is no room for all.
 #![tactic(auto)]
 
-ghost use Rattle.std.specs.Prelude.{◌≡◌, [], ◌∷◌, ◌-◌, ◌*◌, ◌≤◌, length};
+ghost use Rattle.std.specs.Prelude.{◌≡◌, [], ◌∷◌, ◌-◌, ◌*◌, ◌<◌, ◌≤◌, length};
 ghost use Rattle.std.proofs.lemmas.List.Edits.{sets};
 ghost use Rattle.lattice.specs.Lattice.{edge};
 ghost use Rattle.lattice.specs.Layout.{edge_count};
-ghost use Rattle.rows.specs.Grid.{piece_of, ending_in, lattice_in};
+ghost use Rattle.rows.specs.Grid.{piece_of, cell, ending_in, lattice_in};
 ghost use Rattle.builder.specs.Put.{Put, Slot, Grid, End, Whole, Ended};
 ghost use Rattle.rows.specs.Word.{Room};
 ghost use Rattle.builder.specs.Lay.{Part, Parted, Numbers, Word, Laid, Listed, Counts, Building, Builds};
 
-use rows::walk_word;
+use rows::{STRIDE, walk_word};
 use spans::count;
-use utf8::classes;
 
 // How many edges and how many offsets.
-#[derive(Clone, Copy)]
+#[derive(Clone, Copy, Debug, PartialEq, Eq)]
 pub struct Sizes {
     pub edges: usize,
     pub ends: usize,
 }
 
-// A row of the grid has a number for each step: "Piece length setting at most 32 characters."
-const STRIDE: usize = 32;
-
 // The lowest start from which a piece of the length setting reaches an end.
 fn lowest(setting: usize, end: usize) -> usize
     ensures { result ≡ end - setting }
 {
-    if end < setting {
-        return 0;
-    }
-    end - setting
+    end.saturating_sub(setting)
+}
+
+// The number of the grid for a start and an end.
+fn cell(grid: &[u32], end: usize, start: usize) -> u32
+    requires { (start < end) × (32 * end ≤ length grid.now) }
+    ensures { result ≡ cell grid.now end start }
+{
+    grid[STRIDE * start + (end - start - 1)]
 }
 
 // Puts one edge, if a piece was found.
@@ -67,11 +68,8 @@ fn put_end(
     ensures { Put starts.old ids.old write (ending_in setting grid.now end) starts.new ids.new result }
 {
     let mut at = write;
-    let mut start = lowest(setting, end);
-    while start < end {
-        let k = STRIDE * start + (end - start - 1);
-        at = put(starts, ids, grid[k], start, at);
-        start += 1;
+    for start in lowest(setting, end)..end {
+        at = put(starts, ids, cell(grid, end, start), start, at);
     }
     at
 }
@@ -91,36 +89,21 @@ fn put_word(
 {
     offsets[0] = 0;
     let mut at = write;
-    let mut end = 0;
-    while end <= n {
+    for end in 0..=n {
         at = put_end(starts, ids, grid, setting, end, at);
         offsets[end + 1] = (at - write) as u32;
-        end += 1;
     }
     at
 }
 
-// How many edges a number of the grid is: one, or none.
-fn one(found: u32) -> usize
-    ensures { (result ≡ length (edge 0 (piece_of found))) × (result ≤ 1) }
-{
-    if found == 0 {
-        return 0;
-    }
-    1
-}
-
-// How many edges one end has.
+// How many edges one end has: one for each start with a piece.
 fn count_end(grid: &[u32], setting: usize, end: usize) -> usize
     requires { Grid grid.now setting end }
     ensures { result ≡ length (ending_in setting grid.now end) }
 {
     let mut count = 0;
-    let mut start = lowest(setting, end);
-    while start < end {
-        let k = STRIDE * start + (end - start - 1);
-        count += one(grid[k]);
-        start += 1;
+    for start in lowest(setting, end)..end {
+        count += usize::from(cell(grid, end, start) != 0);
     }
     count
 }
@@ -131,10 +114,8 @@ pub fn count_word(grid: &[u32], setting: usize, n: usize) -> usize
     ensures { result ≡ edge_count (lattice_in setting grid.now n) }
 {
     let mut count = 0;
-    let mut end = 0;
-    while end <= n {
+    for end in 0..=n {
         count += count_end(grid, setting, end);
-        end += 1;
     }
     count
 }
@@ -162,6 +143,7 @@ fn put_span(spans: &mut [u32], k: usize, from: usize, to: usize, at: usize, n: u
     requires { Numbers spans.old k from to at n }
     ensures { spans.new ≡ sets spans.old (4 * k) (from ∷ to ∷ at ∷ n ∷ []) }
 {
+    // Four writes: a copy of an array of four would be no plainer.
     let p = 4 * k;
     spans[p] = from as u32;
     spans[p + 1] = to as u32;
@@ -205,21 +187,14 @@ pub fn count_words(
     requires { Room keys.now ends.now setting chars.old grid.old × Listed text.now words.now }
     ensures { Counts keys.now ends.now text.now words.now setting result }
 {
-    let table = classes();
     let many = count(words);
-    let mut edges = 0;
-    let mut offsets = 0;
-    let mut k = 0;
-    while k < many {
-        let n = walk_word(keys, ends, &table, text, words, k, setting, chars, grid);
-        edges += count_word(grid, setting, n);
-        offsets += n + 2;
-        k += 1;
+    let mut so = Sizes { edges: 0, ends: 0 };
+    for k in 0..many {
+        let n = walk_word(keys, ends, text, words, k, setting, chars, grid);
+        so.edges += count_word(grid, setting, n);
+        so.ends += n + 2;
     }
-    Sizes {
-        edges,
-        ends: offsets,
-    }
+    so
 }
 
 // Lays the lattices of all words of a list out, one behind the other from slot 0. What stands behind stays as it was.
@@ -240,14 +215,11 @@ pub fn build_words(
     requires building { Building keys.now ends.now text.now words.now setting offsets.old starts.old ids.old spans.old }
     ensures { Builds keys.now ends.now text.now words.now setting offsets.old starts.old ids.old spans.old offsets.new starts.new ids.new spans.new result }
 {
-    let table = classes();
     let many = count(words);
     let mut so = Sizes { edges: 0, ends: 0 };
-    let mut k = 0;
-    while k < many {
-        let n = walk_word(keys, ends, &table, text, words, k, setting, chars, grid);
+    for k in 0..many {
+        let n = walk_word(keys, ends, text, words, k, setting, chars, grid);
         so = lay_word(offsets, starts, ids, spans, grid, setting, n, k, so);
-        k += 1;
     }
     so
 }

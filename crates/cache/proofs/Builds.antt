@@ -15,8 +15,7 @@ use Rattle.lattice.specs.Pruning.{Prunings, no_pruning, one_more, survivors, sur
 use Rattle.lattice.proofs.Survivors.{still_distinct}
 use Rattle.trie.proofs.Same.{length_first}
 use Rattle.inputs.proofs.Theorems.{not_both, one_why, listed_distinct}
-use Rattle.fresh.specs.declared.Built.{Built as Answer}
-use Rattle.fresh.specs.declared.Built.TheVariants.{Edges, Refused}
+use Rattle.std.specs.Prelude.{Result, Ok, Err}
 use Rattle.fresh.specs.Slots.{filled}
 use Rattle.fresh.specs.Build.{Lent, Results, Work, TrieRoom, afresh, CacheRoom, Ordered, Why, not_in_order, no_trie, no_cache, Fresh, Accepted, Answers, Zeros}
 use Rattle.cache.proofs.Theorems.{Calls, no_call, one_call, Built, in_step, still_built, same_results}
@@ -74,10 +73,10 @@ through setting d (one_more {pieces} {remap} {remaps} m l s) words (one_call {x 
 pub record Kept (x : Lent) (remaps : List (List ℕ)) (z : Results) : Type 0 where
   pub in_step : Exactly (cache x.setting (survivors_of remaps (listed x.spellings x.pieces)) (listed x.text x.words)) z
 
-pub always_in_step : {x : Lent} {y : Results} {w : Work} → Ready x y w → {y' : Results} (r : Answer) → Answers x y w y' r
+pub always_in_step : {x : Lent} {y : Results} {w : Work} → Ready x y w → {y' : Results} (r : Result ℕ Refusal) → Answers x y w y' r
     → {remaps : List (List ℕ)} → Prunings (listed x.spellings x.pieces) remaps → {z : Results} → Calls (many x.words) remaps y' z → Kept x remaps z
-always_in_step {x} {y} {w} ready (Refused refusal) answers prunings calls = absurd (never_refused ready answers.0)
-always_in_step {x} {y} {w} ready {y'} (Edges count) answers {remaps} prunings {z} calls =
+always_in_step {x} {y} {w} ready (Err refusal) answers prunings calls = absurd (never_refused ready answers.0)
+always_in_step {x} {y} {w} ready {y'} (Ok count) answers {remaps} prunings {z} calls =
     let pieces = listed x.spellings x.pieces in
     let words = listed x.text x.words in
     record {
@@ -99,7 +98,7 @@ pub record SameLengths (y z : Results) : Type 0 where
   pub spans_long : length y.spans ≡ length z.spans
 
 pub as_built_afresh : {x : Lent} {remaps : List (List ℕ)} {z : Results} → Kept x remaps z
-    → {x' : Lent} {y : Results} {w : Work} {y' : Results} (count : ℕ) → Answers x' y w y' (Edges count)
+    → {x' : Lent} {y : Results} {w : Work} {y' : Results} (count : ℕ) → Answers x' y w y' (Ok count)
     → x'.setting ≡ x.setting → listed x'.spellings x'.pieces ≡ survivors_of remaps (listed x.spellings x.pieces) → listed x'.text x'.words ≡ listed x.text x.words
     → SameLengths z y' → z ≡ y'
 as_built_afresh {x} {remaps} {z} kept {x'} {y} {w} {y'} count answers s p t same =
@@ -131,17 +130,17 @@ module _ {x : Lent} {y : Results} {w : Work} where
   accepted_not a (no_trie o n) = n a.trie_room
   accepted_not a (no_cache o t n) = n a.cache_room
 
-pub no_second : (x : Lent) (y : Results) (w : Work) {y' y'' : Results} (r s : Answer) → Answers x y w y' r → Answers x y w y'' s → (y' ≡ y'') × (r ≡ s)
-no_second x y w (Edges a) (Edges b) p q =
+pub no_second : (x : Lent) (y : Results) (w : Work) {y' y'' : Results} (r s : Result ℕ Refusal) → Answers x y w y' r → Answers x y w y'' s → (y' ≡ y'') × (r ≡ s)
+no_second x y w (Ok a) (Ok b) p q =
     let h = p.fresh in
     let k = q.fresh in
-    (same_results (one_outcome h.offsets_are k.offsets_are) (one_outcome h.starts_are k.starts_are) (one_outcome h.ids_are k.ids_are) (one_outcome h.spans_are k.spans_are), ap Edges (one_outcome h.edges k.edges))
-no_second x y w (Edges a) (Refused s) p q = absurd (accepted_not p q.0)
-no_second x y w (Refused r) (Edges b) p q = absurd (accepted_not q p.0)
-no_second x y w (Refused r) (Refused s) p q =
+    (same_results (one_outcome h.offsets_are k.offsets_are) (one_outcome h.starts_are k.starts_are) (one_outcome h.ids_are k.ids_are) (one_outcome h.spans_are k.spans_are), ap (λ (n : ℕ). Ok n) (one_outcome h.edges k.edges))
+no_second x y w (Ok a) (Err s) p q = absurd (accepted_not p q.0)
+no_second x y w (Err r) (Ok b) p q = absurd (accepted_not q p.0)
+no_second x y w (Err r) (Err s) p q =
     let h = p.1 in
     let k = q.1 in
-    (same_results (one_outcome h.offsets_kept k.offsets_kept) (one_outcome h.starts_kept k.starts_kept) (one_outcome h.ids_kept k.ids_kept) (one_outcome h.spans_kept k.spans_kept), ap Refused (one_reason p.0 q.0))
+    (same_results (one_outcome h.offsets_kept k.offsets_kept) (one_outcome h.starts_kept k.starts_kept) (one_outcome h.ids_kept k.ids_kept) (one_outcome h.spans_kept k.spans_kept), ap (λ (r : Refusal). Err r) (one_reason p.0 q.0))
 
 -- and the work slices are zero
 pub one_work : {w w' w'' : Work} → Zeros w w' → Zeros w w'' → w' ≡ w''

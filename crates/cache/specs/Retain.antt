@@ -1,5 +1,5 @@
 -- What retain answers and leaves: document 01, "Retain checks 9, 13". Definitions only.
-use Rattle.std.specs.Prelude.{List, ℕ, length}
+use Rattle.std.specs.Prelude.{List, ℕ, length, Result, Ok, Err}
 use Rattle.lattice.specs.Lattice.{Edge}
 use Rattle.lattice.specs.Pruning.{Remap, retained}
 use Rattle.refusal.specs.declared.Refusal.{Refusal}
@@ -8,8 +8,6 @@ use Rattle.cached.specs.Cached.{CacheFormed, FirstBad}
 use Rattle.cached.specs.Held.{Held}
 use Rattle.retain.specs.Remaps.{Lowest}
 use Rattle.fresh.specs.Slots.{Holds, Kept}
-use Rattle.cache.specs.declared.Retained.{Retained}
-use Rattle.cache.specs.declared.Retained.TheVariants.{Edges, Refused}
 
 -- whatever lattices the slices held, they hold the pruned ones
 abbrev pub Pruned : List ℕ → List ℕ → List ℕ → List ℕ → ℕ → List ℕ → List ℕ → List ℕ → List ℕ → List ℕ → ℕ → Type 0
@@ -21,7 +19,7 @@ pub data Why (offsets starts ids spans : List ℕ) (words : ℕ) (remap : List �
   bad_lattice : {word : ℕ} → FirstBad starts ids offsets spans (length remap) words word → Why offsets starts ids spans words remap (BadLattice word)
   bad_remap : {entry : ℕ} → CacheFormed starts ids offsets spans (length remap) words → Lowest 0 remap entry → Why offsets starts ids spans words remap (BadRemap entry)
 
-abbrev pub Answers : List ℕ → List ℕ → List ℕ → List ℕ → ℕ → List ℕ → List ℕ → List ℕ → List ℕ → List ℕ → Retained → Type 0
-Answers offsets starts ids spans words remap offsets' starts' ids' spans' (Refused refusal) = Why offsets starts ids spans words remap refusal × Kept offsets starts ids spans offsets' starts' ids' spans'
-Answers offsets starts ids spans words remap offsets' starts' ids' spans' (Edges count) =
+abbrev pub Answers : List ℕ → List ℕ → List ℕ → List ℕ → ℕ → List ℕ → List ℕ → List ℕ → List ℕ → List ℕ → Result ℕ Refusal → Type 0
+Answers offsets starts ids spans words remap offsets' starts' ids' spans' (Err refusal) = Why offsets starts ids spans words remap refusal × Kept offsets starts ids spans offsets' starts' ids' spans'
+Answers offsets starts ids spans words remap offsets' starts' ids' spans' (Ok count) =
     CacheFormed starts ids offsets spans (length remap) words × Remap 0 remap × Pruned offsets starts ids spans words remap offsets' starts' ids' spans' count

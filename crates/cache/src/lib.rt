@@ -14,19 +14,10 @@ ghost use Rattle.cached.specs.Cached.{CacheFormed};
 ghost use Rattle.fresh.specs.Build.{Answers, Zeros};
 ghost use Rattle.cache.specs.Retain.{Pruned, Answers as RetainAnswers};
 
-use cached::{Cache, cached, offsets_before};
-pub use fresh::Built;
+use cached::{cached, offsets_before};
 use fresh::{clear, index_and_lay};
-use inputs::Checked;
 use refusal::Refusal;
-use retain::{Remapped, check_remap, retain_core};
-
-// How many edges are left, or why nothing was done.
-#[derive(Clone, Copy)]
-pub enum Retained {
-    Edges(usize),
-    Refused(Refusal),
-}
+use retain::{check_remap, retain_core};
 
 // Prunes a cache that was checked, and clears what stands behind.
 fn prune(
@@ -46,7 +37,8 @@ fn prune(
     count
 }
 
-// Drops the edges of pieces that are gone from every lattice of a cache of so many words, and renumbers the others.
+// Drops the edges of pieces that are gone from every lattice of a cache of so many words, and renumbers the others. Answers how
+// many edges are left.
 pub fn retain(
     offsets: &mut [u32],
     starts: &mut [u32],
@@ -54,16 +46,14 @@ pub fn retain(
     spans: &mut [u32],
     words: usize,
     remap: &[u32],
-) -> Retained
+) -> Result<usize, Refusal>
     ensures { RetainAnswers offsets.old starts.old ids.old spans.old words remap.now offsets.new starts.new ids.new spans.new result }
 {
-    match cached(starts, ids, offsets, spans, words, remap.len()) {
-        Cache::BadAt(word) => Retained::Refused(Refusal::BadLattice(word as u64)),
-        Cache::Formed => match check_remap(remap) {
-            Remapped::Refused(refusal) => Retained::Refused(refusal),
-            Remapped::Fits => Retained::Edges(prune(offsets, starts, ids, spans, words, remap)),
-        },
+    if let Err(word) = cached(starts, ids, offsets, spans, words, remap.len()) {
+        return Err(Refusal::BadLattice(word as u64));
     }
+    check_remap(remap)?;
+    Ok(prune(offsets, starts, ids, spans, words, remap))
 }
 
 // Checks, and builds; the work slices are left as they may be.
@@ -80,18 +70,16 @@ fn check_and_build(
     keys: &mut [u64],
     ends: &mut [u32],
     table: &mut [u32],
-) -> Built
+) -> Result<usize, Refusal>
     ensures { Answers (record { setting = setting; text = text.now; words = words.now; spellings = spellings.now; pieces = pieces.now }) (record { offsets = offsets.old; starts = starts.old; ids = ids.old; spans = spans.old }) (record { keys = keys.old; ends = ends.old; table = table.old }) (record { offsets = offsets.new; starts = starts.new; ids = ids.new; spans = spans.new }) result }
 {
-    match inputs::check(setting, text, words, spellings, pieces, table) {
-        Checked::Refused(refusal) => Built::Refused(refusal),
-        Checked::Fine => index_and_lay(
-            setting, text, words, spellings, pieces, offsets, starts, ids, spans, keys, ends,
-        ),
-    }
+    inputs::check(setting, text, words, spellings, pieces, table)?;
+    index_and_lay(
+        setting, text, words, spellings, pieces, offsets, starts, ids, spans, keys, ends,
+    )
 }
 
-// Builds the lattices of words over pieces, for a length setting.
+// Builds the lattices of words over pieces, for a length setting. Answers how many edges they have.
 pub fn build(
     setting: usize,
     text: &[u8],
@@ -105,15 +93,15 @@ pub fn build(
     keys: &mut [u64],
     ends: &mut [u32],
     table: &mut [u32],
-) -> Built
+) -> Result<usize, Refusal>
     ensures answers { Answers (record { setting = setting; text = text.now; words = words.now; spellings = spellings.now; pieces = pieces.now }) (record { offsets = offsets.old; starts = starts.old; ids = ids.old; spans = spans.old }) (record { keys = keys.old; ends = ends.old; table = table.old }) (record { offsets = offsets.new; starts = starts.new; ids = ids.new; spans = spans.new }) result }
     ensures zeros { Zeros (record { keys = keys.old; ends = ends.old; table = table.old }) (record { keys = keys.new; ends = ends.new; table = table.new }) }
 {
     let answer = check_and_build(
         setting, text, words, spellings, pieces, offsets, starts, ids, spans, keys, ends, table,
     );
-    slots::clear_keys(keys);
-    slots::clear_numbers(ends);
-    slots::clear_numbers(table);
+    keys.fill(0);
+    ends.fill(0);
+    table.fill(0);
     answer
 }

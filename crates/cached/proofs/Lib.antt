@@ -3,4 +3,5 @@ pub mod Chains
 pub mod Readback
 pub mod Fronts
 pub mod Converse
+pub mod Words
 pub mod Theorems

@@ -11,8 +11,7 @@ use Rattle.lattice.specs.Lattice.{Edge, ending, lattice, cache}
 use Rattle.lattice.specs.Layout.{joined, flat}
 use Rattle.formed.specs.Held.{Rows}
 use Rattle.formed.proofs.Built.{length_rows, built_sound}
-use Rattle.cached.specs.declared.Cache.{Cache}
-use Rattle.cached.specs.declared.Cache.TheVariants.{Formed as Good, BadAt}
+use Rattle.std.specs.Prelude.{Result, Ok, Err}
 use Rattle.cached.specs.Cached.{edges_before, offsets_before, CacheFormed, Answers}
 use Rattle.cached.specs.Held.{Lattices, Begins, Held}
 use Rattle.cached.proofs.Chains.{Chain, chain_begins}
@@ -72,12 +71,12 @@ built_well_formed starts ids ends spans setting pieces words same s i e p =
     (record { many = length-map words (lattice setting pieces); starts_are = s; ids_are = i; ends_are = e; spans_are = p; rows = built_lattices setting pieces words })
 
 -- the test has one answer: a first bad word is the only first
-pub one_answer : (starts ids ends spans : List ℕ) (pieces words : ℕ) (r s : Cache) → Answers starts ids ends spans pieces words r → Answers starts ids ends spans pieces words s → r ≡ s
-one_answer starts ids ends spans pieces words Good Good p q = refl
-one_answer starts ids ends spans pieces words Good (BadAt w) p q = absurd (q.bad (p w q.within))
-one_answer starts ids ends spans pieces words (BadAt w) Good p q = absurd (p.bad (q w p.within))
-one_answer starts ids ends spans pieces words (BadAt w) (BadAt v) p q =
+pub one_answer : (starts ids ends spans : List ℕ) (pieces words : ℕ) (r s : Result (Unit {0}) ℕ) → Answers starts ids ends spans pieces words r → Answers starts ids ends spans pieces words s → r ≡ s
+one_answer starts ids ends spans pieces words (Ok _) (Ok _) p q = refl
+one_answer starts ids ends spans pieces words (Ok _) (Err w) p q = absurd (q.bad (p w q.within))
+one_answer starts ids ends spans pieces words (Err w) (Ok _) p q = absurd (p.bad (q w p.within))
+one_answer starts ids ends spans pieces words (Err w) (Err v) p q =
     elim (dec_lt w v) [
       | yes l ↦ absurd (p.bad (q.before w l))
-      | no l ↦ elim (dec_lt v w) [ yes m ↦ absurd (q.bad (p.before v m)) | no m ↦ let e : w ≡ v = omega arith in ap BadAt e ]
+      | no l ↦ elim (dec_lt v w) [ yes m ↦ absurd (q.bad (p.before v m)) | no m ↦ let e : w ≡ v = omega arith in ap Err e ]
     ]

@@ -1,9 +1,7 @@
 -- When a cache in slices is well formed: document 01, "and a cache's words follow each other from slot 0". Definitions only.
-use Rattle.std.specs.Prelude.{◌≡◌, List, ℕ, zero, suc, ◌+◌, ◌*◌, ◌≤◌, ◌<◌, length, get_or}
+use Rattle.std.specs.Prelude.{◌≡◌, List, ℕ, zero, suc, ◌+◌, ◌*◌, ◌≤◌, ◌<◌, length, get_or, Result, Ok, Err}
 use Rattle.formed.specs.declared.Span.{Span}
 use Rattle.formed.specs.Formed.{Formed}
-use Rattle.cached.specs.declared.Cache.{Cache}
-use Rattle.cached.specs.declared.Cache.TheVariants.{Formed as Good, BadAt}
 
 -- a word has a span, four numbers
 abbrev pub Present : List ℕ → ℕ → Type 0
@@ -36,6 +34,6 @@ pub record FirstBad (starts ids ends spans : List ℕ) (pieces words word : ℕ)
   pub before : CacheFormed starts ids ends spans pieces word
   pub bad : WordFormed starts ids ends spans pieces word → ⊥
 
-abbrev pub Answers : List ℕ → List ℕ → List ℕ → List ℕ → ℕ → ℕ → Cache → Type 0
-Answers starts ids ends spans pieces words Good = CacheFormed starts ids ends spans pieces words
-Answers starts ids ends spans pieces words (BadAt word) = FirstBad starts ids ends spans pieces words word
+abbrev pub Answers : List ℕ → List ℕ → List ℕ → List ℕ → ℕ → ℕ → Result (Unit {0}) ℕ → Type 0
+Answers starts ids ends spans pieces words (Ok _) = CacheFormed starts ids ends spans pieces words
+Answers starts ids ends spans pieces words (Err word) = FirstBad starts ids ends spans pieces words word

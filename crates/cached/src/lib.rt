@@ -12,15 +12,8 @@ ghost use Rattle.cached.specs.Cached.{span_at, edges_before, offsets_before, Pre
 
 use formed::{Span, formed, read};
 
-// A cache's words are all as they should be, or the first that is not.
-#[derive(Clone, Copy)]
-pub enum Cache {
-    Formed,
-    BadAt(usize),
-}
-
-// The span of a word: its four numbers.
-fn span_at(spans: &[u32], word: usize) -> Span
+// The span of a word: its four numbers. For callers that have shown that it has one.
+pub fn span_at(spans: &[u32], word: usize) -> Span
     requires { Present spans.now word }
     ensures { result ≡ span_at spans.now word }
 {
@@ -39,10 +32,10 @@ fn edges_before(spans: &[u32], word: usize) -> usize
     ensures { result ≡ edges_before spans.now word }
 {
     if word == 0 {
-        return 0;
+        0
+    } else {
+        span_at(spans, word - 1).to
     }
-    let before = span_at(spans, word - 1);
-    before.to
 }
 
 // Where the offsets of the words before end: each has n + 2. For callers that have shown that those have spans.
@@ -72,16 +65,13 @@ fn word_formed(
         return false;
     }
     let span = span_at(spans, word);
-    if span.from != edges_before(spans, word) {
-        return false;
-    }
-    if span.at != offsets_before(spans, word) {
-        return false;
-    }
-    formed(starts, ids, ends, pieces, span)
+    span.from == edges_before(spans, word)
+        && span.at == offsets_before(spans, word)
+        && formed(starts, ids, ends, pieces, span)
 }
 
-// Whether a cache of so many words is well formed, where ids below `pieces` have a score or a remap entry.
+// Whether a cache of so many words is well formed, where ids below `pieces` have a score or a remap entry; else the first
+// word that is not as it should be.
 pub fn cached(
     starts: &[u32],
     ids: &[u32],
@@ -89,15 +79,13 @@ pub fn cached(
     spans: &[u32],
     words: usize,
     pieces: usize,
-) -> Cache
+) -> Result<(), usize>
     ensures { Answers starts.now ids.now ends.now spans.now pieces words result }
 {
-    let mut word = 0;
-    while word < words {
+    for word in 0..words {
         if !word_formed(starts, ids, ends, spans, pieces, word) {
-            return Cache::BadAt(word);
+            return Err(word);
         }
-        word += 1;
     }
-    Cache::Formed
+    Ok(())
 }

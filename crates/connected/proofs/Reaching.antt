@@ -12,20 +12,14 @@ use lib.Seq.{length-take-le, get_or-set_same, get_or-set_other, get_or-take}
 use Rattle.laws.specs.Tests.{Says}
 use Rattle.connected.specs.Word.{Linked, Starting, low, high}
 use Rattle.connected.specs.Cut.{Cut, Connected}
-use Rattle.connected.specs.Marks.{mark_of, Into}
+use mir.Val.{bool_byte}
+use Rattle.connected.specs.Marks.{Into}
 use Rattle.connected.proofs.Word.{link}
 
 module _ (offsets starts : List ℕ) where
   -- the mark of each position up to `end` says whether a chain reaches it
   abbrev pub Marks : List ℕ → ℕ → Type 0
   Marks reach end = (p : ℕ) → p ≤ end → Says (eqb (get_or reach p 0) 1) (Connected offsets starts p)
-
-  -- position 0 has the chain of no edges
-  pub marks_one : (reach : List ℕ) → 0 < length reach → Marks (set reach 0 1) 0
-  marks_one reach h p l =
-      let e : 0 ≡ p = omega arith in
-      subst (λ (q : ℕ). Says (eqb (get_or (set reach 0 1) q 0) 1) (Connected offsets starts q)) e
-      (subst (λ (m : ℕ). Says (eqb m 1) (Connected offsets starts 0)) (sym (get_or-set_same reach 0 1 0 h)) (record { edges = []; cut = refl }))
 
   -- an edge from a marked position continues its chain; and a chain ends with such an edge
   module _ (reach : List ℕ) (q : ℕ) (m : Marks reach q) (s : Starting starts (q + 1) (low offsets (q + 1)) (high offsets (q + 1))) where
@@ -54,11 +48,11 @@ module _ (offsets starts : List ℕ) where
         one true e t = eqb-true _ _ e
         one false e t = absurd (t (record { edges = ks; cut = c.2 }))
 
-    same : (b : Bool) → Says b Here → Says (eqb (mark_of b) 1) (Connected offsets starts (q + 1))
+    same : (b : Bool) → Says b Here → Says (eqb (bool_byte b) 1) (Connected offsets starts (q + 1))
     same true i = longer i
     same false i = λ c. i (shorter c.edges c.cut)
 
-    pub marks_more : (b : Bool) (mark : ℕ) → mark ≡ mark_of b → q + 1 < length reach → Says b Here → Marks (set reach (q + 1) mark) (q + 1)
+    pub marks_more : (b : Bool) (mark : ℕ) → mark ≡ bool_byte b → q + 1 < length reach → Says b Here → Marks (set reach (q + 1) mark) (q + 1)
     marks_more b mark e h i p l = elim (dec_lt p (q + 1)) [
       | yes a ↦ subst (λ (x : ℕ). Says (eqb x 1) (Connected offsets starts p)) (sym (get_or-set_other reach (q + 1) p mark 0 (differ a))) (m p (omega arith))
       | no a ↦ subst (λ (r : ℕ). Says (eqb (get_or (set reach (q + 1) mark) r 0) 1) (Connected offsets starts r)) (here a) (subst (λ (x : ℕ). Says (eqb x 1) (Connected offsets starts (q + 1))) (sym (get_or-set_same reach (q + 1) mark 0 h ∙ e)) (same b i))
@@ -75,8 +69,5 @@ module _ {offsets starts : List ℕ} (reach : List ℕ) {q n from to : ℕ} (l :
   pub may_ask : q + 1 ≤ length reach → Starting starts (length (take (q + 1) reach)) from to
   may_ask r = rw (length-take-le (q + 1) reach r, a, b) (link l (q + 1) (omega arith))
 
-  pub turn : Marks offsets starts reach q → (r : Bool) (mark : ℕ) → mark ≡ mark_of r → q + 1 < length reach → Says r (Into starts (take (q + 1) reach) from to) → Marks offsets starts (set reach (q + 1) mark) (q + 1)
+  pub turn : Marks offsets starts reach q → (r : Bool) (mark : ℕ) → mark ≡ bool_byte r → q + 1 < length reach → Says r (Into starts (take (q + 1) reach) from to) → Marks offsets starts (set reach (q + 1) mark) (q + 1)
   turn m r mark e g s = marks_more offsets starts reach q m (link l (q + 1) (omega arith)) r mark e g (rw (a, b) at s)
-
-pub answer : (offsets starts reach : List ℕ) {q n r : ℕ} → Marks offsets starts reach q → n ≤ q → r ≡ get_or reach n 0 → Says (eqb r 1) (Connected offsets starts n)
-answer offsets starts reach {n = n} m l e = rw e (m n l)

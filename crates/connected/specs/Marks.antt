@@ -1,9 +1,5 @@
 -- Marks of positions that are reached. Definitions only.
-use Rattle.std.specs.Prelude.{◌≡◌, Bool, true, false, List, ℕ, ◌≤◌, ◌<◌, get_or}
-
-abbrev pub mark_of : Bool → ℕ
-mark_of true = 1
-mark_of false = 0
+use Rattle.std.specs.Prelude.{◌≡◌, List, ℕ, ◌≤◌, ◌<◌, get_or}
 
 -- an edge of a range starts at a marked position
 pub record Into (starts reach : List ℕ) (low high : ℕ) : Type 0 where

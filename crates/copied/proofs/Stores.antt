@@ -1,58 +1,28 @@
--- Loops that store values one after the other, from a slot on. Assumes nothing.
-use mathlib.Core.Path.{◌≡◌, refl, sym, ap, ◌∙◌}
-use mathlib.Core.List.{List, [], ◌∷◌, ◌++◌}
-use Prim.Native.Nat.{ℕ, ◌+◌, ◌≤◌, ◌<◌}
+-- Values that are stored one after the other, from a slot on. Assumes nothing.
+use mathlib.Core.Path.{◌≡◌, refl, sym, ap, ap₂, ◌∙◌}
+use mathlib.Core.List.{List, ◌++◌}
+use Prim.Native.Nat.{ℕ, ◌+◌, ◌≤◌}
 use native.Mathlib.Nat.{zero-add}
-use native.Mathlib.Numerals.{add-one}
 use native.Mathlib.Omega.{arith}
-use lib.ListN.{length, get_or, take, drop, set, replicate, length-replicate}
-use lib.Seq.{sets, sets-eq, length-sets, take-suc, take_all, length-take-le}
-use Rattle.laws.proofs.Fills.{Filled}
-use Rattle.lattice.proofs.Fronts.{sets_append}
+use borrow.Rule.Slice.PartMut.{put_mid}
+use Rattle.std.proofs.lemmas.Slice.{put_mid-paste}
+use lib.ListN.{length, take, drop, replicate, length-replicate}
+use lib.Seq.{length-take-le, sets, sets-eq, take_all}
 
--- ---- a copy: the first k values are stored
-pub record Copied (A : Type 0) (values before : List A) (at k : ℕ) (out : List A) : Type 0 where
-  pub near : k ≤ length values
-  pub room : at + length values ≤ length before
-  pub is : out ≡ sets before at (take k values)
-
-pub copied_none : {A : Type 0} (values before : List A) (at : ℕ) → at + length values ≤ length before → Copied A values before at 0 before
-copied_none values before at h = record { near = omega arith; room = h; is = refl }
-
-module _ {A : Type 0} {values before : List A} {at k : ℕ} {out : List A} (c : Copied A values before at k out) where
-  pub copied_long : length out ≡ length before
-  copied_long = ap length c.is ∙ length-sets before at (take k values)
-
-  pub copied_room : k < length values → at + k < length out
-  copied_room l = let a = copied_long in let r = c.room in omega arith
-
-  pub copied_more : (d : A) → k < length values → Copied A values before at (k + 1) (set out (at + k) (get_or values k d))
-  copied_more d l =
-      let v = get_or values k d in
-      let stored = sets before at (take k values) in
-      record {
-        near = omega arith;
-        room = c.room;
-        is = ap (λ (x : List A). set x (at + k) v) c.is
-            ∙ ap (λ (j : ℕ). set stored (at + j) v) (sym (length-take-le k values c.near))
-            ∙ sym (sets_append before at (take k values) (v ∷ []))
-            ∙ ap (sets before at) (sym (take-suc values k d l))
-            ∙ ap (λ (j : ℕ). sets before at (take j values)) (sym (add-one k));
-      }
-
-  pub copied_all : length values ≤ k → out ≡ sets before at values
-  copied_all h = c.is ∙ ap (sets before at) (take_all k values h)
+-- ---- values that are copied into a part of a slice are stored from its first slot on
+pub part_stored : {A : Type 0} (before values part : List A) (at n : ℕ) → part ≡ values → n ≡ length values → at + length values ≤ length before → put_mid at n before part ≡ sets before at values
+part_stored {A} before values part at n e l h =
+    put_mid-paste at n before part values (length values) e (sym l) refl
+    ∙ ap (λ (x : List A). take at before ++ x ++ drop (at + length values) before) (take_all (length values) values (omega arith))
+    ∙ sym (sets-eq values before at h)
 
 -- ---- stores from slot 0 on are written over the front
 pub sets_over : {A : Type 0} (values l : List A) → length values ≤ length l → sets l 0 values ≡ values ++ drop (length values) l
 sets_over {A} values l h = sets-eq values l 0 (omega arith) ∙ ap (λ (n : ℕ). values ++ drop n l) (zero-add (length values))
 
--- what is filled is stored
-pub filled_stored : {A : Type 0} {v : A} {before slots : List A} {n k : ℕ} → Filled A v before k slots → k ≡ n → slots ≡ sets before 0 (replicate n v)
-filled_stored {A} {v} {before} {slots} {n} {k} f e =
-    let m : length (replicate n v) ≡ n = length-replicate n v in
-    let r = f.near in
-    f.is
-    ∙ ap (λ (j : ℕ). replicate j v ++ drop j before) e
-    ∙ ap (λ (j : ℕ). replicate n v ++ drop j before) (sym m)
-    ∙ sym (sets_over (replicate n v) before (omega arith))
+-- a front that is filled is stored
+pub front_stored : {A : Type 0} (v : A) (before part : List A) (n : ℕ) → part ≡ replicate (length (take n before)) v → n ≤ length before → part ++ drop n before ≡ sets before 0 (replicate n v)
+front_stored {A} v before part n e h =
+    let l = length-take-le n before h in
+    let m : n ≡ length (replicate n v) = sym (length-replicate n v) in
+    ap₂ (λ (x : List A) (j : ℕ). x ++ drop j before) (e ∙ ap (λ (j : ℕ). replicate j v) l) m ∙ sym (sets_over (replicate n v) before (omega arith))

@@ -1,4 +1,5 @@
 -- What stands at an index of the kept words: the word that was chosen there. Assumes nothing.
+use Rattle.std.specs.Prelude.{Result, Ok, Err}
 use mathlib.Core.Path.{◌≡◌, refl, sym, ap, ap₂, ◌∙◌, subst}
 use mathlib.Core.List.{List, [], ◌∷◌, ◌++◌, map}
 use Prim.Native.Nat.{ℕ, zero, suc, ◌+◌, ◌*◌, ◌<◌}
@@ -8,8 +9,6 @@ use native.Mathlib.Omega.{arith}
 use lib.ListN.{length, get_or, take, drop, length-append}
 use Rattle.utf8.specs.Encode.{Spells}
 use Rattle.utf8.specs.Chars.{chars_of, measured}
-use Rattle.utf8.specs.declared.Text.{Text}
-use Rattle.utf8.specs.declared.Text.TheVariants.{Chars, BadAt}
 use Rattle.spans.specs.Spans.{from, bytes, octets, chars_at, first}
 use Rattle.spans.specs.Check.{Good}
 use Rattle.corpus.specs.Corpus.{GoodWords, Utf8, weighs, weight_at, total}
@@ -85,12 +84,12 @@ module _ {text words frequencies kept counts kept' counts' : List ℕ} {n r : �
       }
 
 -- ---- there is one, where a word is UTF-8
-pick_some : (t : Text) (k : ℕ) (ks : List ℕ) → 0 < length ks → 0 < length (pick t k ks)
-pick_some (Chars c) k ks h = let e = length-append ks (k ∷ []) in omega arith
-pick_some (BadAt b) k ks h = h
+pick_some : (t : Result ℕ ℕ) (k : ℕ) (ks : List ℕ) → 0 < length ks → 0 < length (pick t k ks)
+pick_some (Ok c) k ks h = let e = length-append ks (k ∷ []) in omega arith
+pick_some (Err b) k ks h = h
 
-pick_one : (t : Text) (n k : ℕ) (ks : List ℕ) → t ≡ Chars n → 0 < length (pick t k ks)
-pick_one t n k ks e = let l = length-append ks (k ∷ []) in subst (λ (x : Text). 0 < length (pick x k ks)) (sym e) (omega arith)
+pick_one : (t : Result ℕ ℕ) (n k : ℕ) (ks : List ℕ) → t ≡ Ok n → 0 < length (pick t k ks)
+pick_one t n k ks e = let l = length-append ks (k ∷ []) in subst (λ (x : Result ℕ ℕ). 0 < length (pick x k ks)) (sym e) (omega arith)
 
 pub chosen_some : (text words : List ℕ) (n k : ℕ) → k < n → Utf8 text words k → 0 < length (chosen text words n)
 chosen_some text words zero k l u = absurd (omega arith)
@@ -107,15 +106,15 @@ module _ {A : Type 0} (f g : ℕ → A) where
   abbrev Agree : List ℕ → Type 0
   Agree ks = (j : ℕ) → j < length ks → f j ≡ g (get_or ks j 0)
 
-  pick_first : (t : Text) (k : ℕ) (ks : List ℕ) → (Agree ks → first f (length ks) ≡ map g ks) → Agree (pick t k ks) → first f (length (pick t k ks)) ≡ map g (pick t k ks)
-  pick_first (Chars c) k ks h a =
+  pick_first : (t : Result ℕ ℕ) (k : ℕ) (ks : List ℕ) → (Agree ks → first f (length ks) ≡ map g ks) → Agree (pick t k ks) → first f (length (pick t k ks)) ≡ map g (pick t k ks)
+  pick_first (Ok c) k ks h a =
       let l : length (ks ++ k ∷ []) ≡ suc (length ks) = length-append ks (k ∷ []) ∙ add-one (length ks) in
       ap (first f) l
       ∙ ap₂ (λ (xs : List A) (x : A). xs ++ x ∷ [])
       (h (λ j m. a j (omega arith) ∙ ap g (get_d_left ks (k ∷ []) j 0 m)))
       (a (length ks) (omega arith) ∙ ap g (get_d_last ks k (length ks) refl))
       ∙ sym (map_more g ks k)
-  pick_first (BadAt b) k ks h a = h a
+  pick_first (Err b) k ks h a = h a
 
   pub chosen_first : (text words : List ℕ) (n : ℕ) → Agree (chosen text words n) → first f (length (chosen text words n)) ≡ map g (chosen text words n)
   chosen_first text words zero a = refl
@@ -130,12 +129,12 @@ module _ (text words frequencies : List ℕ) where
   abbrev entry : ℕ → List ℕ × ℕ
   entry k = (chars_at text words k, get_or frequencies k 0)
 
-  pick_weight : (t : Text) (k : ℕ) (ks : List ℕ) → measured (octets text words k) ≡ t → weight_in (map entry (pick t k ks)) ≡ weight_in (map entry ks) + weighs t (get_or frequencies k 0)
-  pick_weight (Chars c) k ks m =
+  pick_weight : (t : Result ℕ ℕ) (k : ℕ) (ks : List ℕ) → measured (octets text words k) ≡ t → weight_in (map entry (pick t k ks)) ≡ weight_in (map entry ks) + weighs t (get_or frequencies k 0)
+  pick_weight (Ok c) k ks m =
       ap weight_in (map_more entry ks k)
       ∙ weight_more (map entry ks) (chars_at text words k) (get_or frequencies k 0)
       ∙ ap (λ (n : ℕ). weight_in (map entry ks) + get_or frequencies k 0 * n) (chars_are (octets text words k) m)
-  pick_weight (BadAt b) k ks m = omega arith
+  pick_weight (Err b) k ks m = omega arith
 
   pub chosen_weight : (n : ℕ) → weight_in (map entry (chosen text words n)) ≡ total (weight_at text words frequencies) n
   chosen_weight zero = refl

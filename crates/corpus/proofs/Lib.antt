@@ -1,5 +1,4 @@
 pub mod Measures
-pub mod Weights
 pub mod Chosen
 pub mod Keeps
 pub mod Fronts

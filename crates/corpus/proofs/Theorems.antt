@@ -1,4 +1,5 @@
 -- The check of the words has one answer; the words that are kept are the corpus, and ready for training. Assumes nothing.
+use Rattle.std.specs.Prelude.{Option, Some, Result, Ok, Err}
 use mathlib.Core.Path.{◌≡◌, refl, sym, ap, ap₂, ◌∙◌}
 use mathlib.Core.List.{List}
 use Prim.Native.Nat.{ℕ, ◌*◌, ◌<◌}
@@ -10,17 +11,12 @@ use Rattle.refusal.specs.declared.Refusal.{Refusal}
 use Rattle.refusal.specs.declared.Refusal.TheVariants.{BadWord, RepeatedWord}
 use Rattle.laws.proofs.Outcome.{one_outcome}
 use Rattle.utf8.specs.Chars.{chars_of, measured}
-use Rattle.utf8.specs.declared.Text.{Text}
-use Rattle.utf8.specs.declared.Text.TheVariants.{Chars, BadAt}
 use Rattle.spans.specs.Spans.{many, octets, chars_at}
 use Rattle.repeats.specs.Repeats.{Lowest}
-use Rattle.repeats.specs.declared.Repeated.TheVariants.{At}
 use Rattle.repeats.proofs.Theorems.{one_answer as one-repeat}
 use Rattle.corpus.specs.Corpus.{FirstBad, Utf8, weighs, weight_at, weight_of}
 use Rattle.corpus.specs.Check.{InOrder, Why, bad_word, repeated, too_heavy, empty, Answers}
 use Rattle.corpus.specs.Kept.{chosen, spans_at, frequencies_at, corpus_of, weight_in, words_of, Ready, Kept}
-use Rattle.corpus.specs.declared.Checked.{Checked}
-use Rattle.corpus.specs.declared.Checked.TheVariants.{Fine, Refused}
 use Rattle.corpus.proofs.Measures.{yes_utf8, measure_utf8}
 use Rattle.corpus.proofs.Chosen.{chosen_at, chosen_rises}
 use Rattle.corpus.proofs.Keeps.{spans_long, frequencies_long}
@@ -28,7 +24,7 @@ use Rattle.corpus.proofs.Fronts.{kept_frequency, kept_octets, kept_good, chosen_
 
 -- ---- one answer
 lowest_one : (text words : List ℕ) (j k : ℕ) → Lowest text words j → Lowest text words k → j ≡ k
-lowest_one text words j k p q = let e : At j ≡ At k = one-repeat text words (At j) (At k) p q in cc
+lowest_one text words j k p q = let e : ◌≡◌ {A = Option ℕ} (Some j) (Some k) = one-repeat text words (Some j) (Some k) p q in cc
 
 module _ {text words frequencies : List ℕ} where
   bad_one : (j k : ℕ) → FirstBad text words frequencies j → FirstBad text words frequencies k → j ≡ k
@@ -64,23 +60,23 @@ module _ {text words frequencies : List ℕ} where
   one_why (empty _ _ h _) (too_heavy _ _ n) = absurd (n h)
   one_why (empty _ _ _ _) (empty _ _ _ _) = refl
 
-pub one_answer : (text words frequencies : List ℕ) (r s : Checked) → Answers text words frequencies r → Answers text words frequencies s → r ≡ s
-one_answer text words frequencies Fine Fine p q = refl
-one_answer text words frequencies Fine (Refused s) p q = absurd (not_both q p)
-one_answer text words frequencies (Refused r) Fine p q = absurd (not_both p q)
-one_answer text words frequencies (Refused r) (Refused s) p q = ap Refused (one_why p q)
+pub one_answer : (text words frequencies : List ℕ) (r s : Result (Unit {0}) Refusal) → Answers text words frequencies r → Answers text words frequencies s → r ≡ s
+one_answer text words frequencies (Ok _) (Ok _) p q = refl
+one_answer text words frequencies (Ok _) (Err s) p q = absurd (not_both q p)
+one_answer text words frequencies (Err r) (Ok _) p q = absurd (not_both p q)
+one_answer text words frequencies (Err r) (Err s) p q = ap Err (one_why p q)
 
 -- ---- a UTF-8 word weighs its frequency times its characters, the empty word and a word that is not UTF-8 nothing
 module _ (text words frequencies : List ℕ) (k : ℕ) where
   pub weight_utf8 : Utf8 text words k → weight_at text words frequencies k ≡ get_or frequencies k 0 * length (chars_at text words k)
-  weight_utf8 u = ap (λ (t : Text). weighs t (get_or frequencies k 0)) (measure_utf8 (octets text words k) u)
+  weight_utf8 u = ap (λ (t : Result ℕ ℕ). weighs t (get_or frequencies k 0)) (measure_utf8 (octets text words k) u)
 
   pub weight_other : (Utf8 text words k → ⊥) → weight_at text words frequencies k ≡ 0
   weight_other n = go (measured (octets text words k)) refl
     where
-      go : (t : Text) → measured (octets text words k) ≡ t → weighs t (get_or frequencies k 0) ≡ 0
-      go (Chars c) e = absurd (n (yes_utf8 (octets text words k) e))
-      go (BadAt b) e = refl
+      go : (t : Result ℕ ℕ) → measured (octets text words k) ≡ t → weighs t (get_or frequencies k 0) ≡ 0
+      go (Ok c) e = absurd (n (yes_utf8 (octets text words k) e))
+      go (Err b) e = refl
 
 -- ---- what is kept is one
 module _ {text words frequencies kept counts : List ℕ} where

@@ -1,12 +1,10 @@
 -- When the words are refused: document 01's table, rows 3 to 6, in this order. Definitions only.
-use Rattle.std.specs.Prelude.{◌≡◌, List, ℕ, ◌*◌, ◌≤◌, ◌<◌, length}
+use Rattle.std.specs.Prelude.{◌≡◌, List, ℕ, ◌*◌, ◌≤◌, ◌<◌, length, Result, Ok, Err}
 use Rattle.refusal.specs.declared.Refusal.{Refusal}
 use Rattle.refusal.specs.declared.Refusal.TheVariants.{BadWord, RepeatedWord, TooHeavy, EmptyCorpus}
 use Rattle.spans.specs.Spans.{many}
 use Rattle.repeats.specs.Repeats.{Again, Lowest}
 use Rattle.corpus.specs.Corpus.{GoodWords, FirstBad, SomeUtf8, weight_of}
-use Rattle.corpus.specs.declared.Checked.{Checked}
-use Rattle.corpus.specs.declared.Checked.TheVariants.{Fine, Refused}
 
 -- what a call asks, which NoRoom has checked before: "At most 16,384 words", a frequency for each word, and two numbers of the
 -- work table for each
@@ -40,6 +38,6 @@ pub data Why (text words frequencies : List ℕ) : Refusal → Type 0 where
   empty : GoodWords text words frequencies (many words) → Once text words → Light text words frequencies
       → (SomeUtf8 text words → ⊥) → Why text words frequencies EmptyCorpus
 
-abbrev pub Answers : List ℕ → List ℕ → List ℕ → Checked → Type 0
-Answers text words frequencies Fine = InOrder text words frequencies
-Answers text words frequencies (Refused refusal) = Why text words frequencies refusal
+abbrev pub Answers : List ℕ → List ℕ → List ℕ → Result (Unit {0}) Refusal → Type 0
+Answers text words frequencies (Ok _) = InOrder text words frequencies
+Answers text words frequencies (Err refusal) = Why text words frequencies refusal

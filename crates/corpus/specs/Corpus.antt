@@ -1,12 +1,8 @@
 -- Words, which of them are bad, which are UTF-8, and what they weigh. Definitions only.
-use Rattle.std.specs.Prelude.{List, ℕ, zero, suc, ◌+◌, ◌*◌, ◌≤◌, ◌<◌, get_or}
+use Rattle.std.specs.Prelude.{List, ℕ, zero, suc, ◌+◌, ◌*◌, ◌≤◌, ◌<◌, get_or, Result, Ok, Err}
 use Rattle.utf8.specs.Encode.{Spells}
 use Rattle.utf8.specs.Chars.{measured}
-use Rattle.utf8.specs.declared.Text.{Text}
-use Rattle.utf8.specs.declared.Text.TheVariants.{Chars, BadAt}
 use Rattle.spans.specs.Spans.{many, bytes, Inside, octets, chars_at}
-use Rattle.spans.specs.declared.Checked.{Checked}
-use Rattle.spans.specs.declared.Checked.TheVariants.{Fine, BadAt as FirstAt}
 
 -- ---- "A word has 0 to 255 bytes and a frequency from 1", and lies inside the text
 pub record GoodWord (text words frequencies : List ℕ) (k : ℕ) : Type 0 where
@@ -23,9 +19,9 @@ pub record FirstBad (text words frequencies : List ℕ) (k : ℕ) : Type 0 where
   pub before : GoodWords text words frequencies k
   pub bad : GoodWord text words frequencies k → ⊥
 
-abbrev pub Judges : List ℕ → List ℕ → List ℕ → Checked → Type 0
-Judges text words frequencies Fine = GoodWords text words frequencies (many words)
-Judges text words frequencies (FirstAt k) = FirstBad text words frequencies k
+abbrev pub Judges : List ℕ → List ℕ → List ℕ → Result (Unit {0}) ℕ → Type 0
+Judges text words frequencies (Ok _) = GoodWords text words frequencies (many words)
+Judges text words frequencies (Err k) = FirstBad text words frequencies k
 
 abbrev pub AllInside : List ℕ → List ℕ → Type 0
 AllInside text words = (k : ℕ) → k < many words → Inside text words k
@@ -39,9 +35,9 @@ SomeUtf8 text words = (k : ℕ) × (k < many words) × Utf8 text words k
 
 -- ---- "W, the sum of frequency times characters over UTF-8 words"
 -- what a word weighs, by what it measures: one that is UTF-8, and one that is not
-abbrev pub weighs : Text → ℕ → ℕ
-weighs (Chars n) frequency = frequency * n
-weighs (BadAt k) frequency = 0
+abbrev pub weighs : Result ℕ ℕ → ℕ → ℕ
+weighs (Ok n) frequency = frequency * n
+weighs (Err k) frequency = 0
 
 abbrev pub weight_at : List ℕ → List ℕ → List ℕ → ℕ → ℕ
 weight_at text words frequencies k = weighs (measured (octets text words k)) (get_or frequencies k 0)

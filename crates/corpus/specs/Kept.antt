@@ -1,17 +1,15 @@
 -- The words that training uses: "Non-UTF-8 words in training are skipped". Definitions only.
-use Rattle.std.specs.Prelude.{◌≡◌, List, [], ◌∷◌, ◌++◌, map, ℕ, zero, suc, ◌+◌, ◌*◌, ◌≤◌, ◌<◌, length, get_or}
+use Rattle.std.specs.Prelude.{◌≡◌, List, [], ◌∷◌, ◌++◌, map, ℕ, zero, suc, ◌+◌, ◌*◌, ◌≤◌, ◌<◌, length, get_or, Result, Ok, Err}
 use Rattle.utf8.specs.Chars.{measured}
-use Rattle.utf8.specs.declared.Text.{Text}
-use Rattle.utf8.specs.declared.Text.TheVariants.{Chars, BadAt}
 use Rattle.spans.specs.Spans.{many, from, bytes, octets, chars_at, first}
 use Rattle.spans.specs.Check.{AllGood}
 use Rattle.lattice.specs.Written.{over}
 use Rattle.corpus.specs.Corpus.{GoodWords}
 
 -- ---- the indexes of the UTF-8 words among the first n, in order
-abbrev pub pick : Text → ℕ → List ℕ → List ℕ
-pick (Chars c) k before = before ++ k ∷ []
-pick (BadAt b) k before = before
+abbrev pub pick : Result ℕ ℕ → ℕ → List ℕ → List ℕ
+pick (Ok c) k before = before ++ k ∷ []
+pick (Err b) k before = before
 
 abbrev pub chosen : List ℕ → List ℕ → ℕ → List ℕ
 chosen text words zero = []

@@ -1,9 +1,7 @@
 -- What the turns of the loops ask and promise. Definitions only.
-use Rattle.std.specs.Prelude.{◌≡◌, List, ℕ, ◌+◌, ◌*◌, ◌≤◌, ◌<◌, length, get_or, set}
-use Rattle.utf8.specs.declared.Text.{Text}
-use Rattle.utf8.specs.declared.Text.TheVariants.{Chars, BadAt}
+use Rattle.std.specs.Prelude.{◌≡◌, List, ℕ, ◌+◌, ◌*◌, ◌≤◌, ◌<◌, length, get_or, set, Result, Ok, Err}
 use Rattle.spans.specs.Spans.{many, from, bytes, Inside}
-use Rattle.corpus.specs.Corpus.{GoodWord, GoodWords}
+use Rattle.corpus.specs.Corpus.{GoodWords}
 
 -- words that are not bad, with a frequency for each
 pub record Lent (text words frequencies : List ℕ) : Type 0 where
@@ -14,7 +12,7 @@ pub record Lent (text words frequencies : List ℕ) : Type 0 where
 pub record Weighing (text words frequencies : List ℕ) (k weight : ℕ) : Type 0 where
   pub within : k < many words
   pub paired : k < length frequencies
-  pub good : GoodWord text words frequencies k
+  pub inside : Inside text words k
   pub light : weight ≤ 281474976710657
 
 -- a turn of the choice, with r of the first k kept
@@ -37,6 +35,6 @@ pub record Skips (r : ℕ) (kept counts kept' counts' : List ℕ) (s : ℕ) : Ty
   pub same_spans : kept' ≡ kept
   pub same_frequencies : counts' ≡ counts
 
-abbrev pub Turns : Text → List ℕ → List ℕ → ℕ → ℕ → List ℕ → List ℕ → List ℕ → List ℕ → ℕ → Type 0
-Turns (Chars c) words frequencies k r kept counts kept' counts' s = Puts words frequencies k r kept counts kept' counts' s
-Turns (BadAt b) words frequencies k r kept counts kept' counts' s = Skips r kept counts kept' counts' s
+abbrev pub Turns : Result ℕ ℕ → List ℕ → List ℕ → ℕ → ℕ → List ℕ → List ℕ → List ℕ → List ℕ → ℕ → Type 0
+Turns (Ok c) words frequencies k r kept counts kept' counts' s = Puts words frequencies k r kept counts kept' counts' s
+Turns (Err b) words frequencies k r kept counts kept' counts' s = Skips r kept counts kept' counts' s

@@ -9,7 +9,7 @@
 // told apart.
 #![tactic(auto)]
 
-ghost use Rattle.std.specs.Prelude.{◌≡◌, ◌+◌, ◌*◌, ◌≤◌, ◌<◌, min, length, get_or};
+ghost use Rattle.std.specs.Prelude.{◌≡◌, ◌+◌, ◌*◌, ◌<◌, min, length};
 ghost use Rattle.laws.specs.Tests.{Says};
 ghost use Rattle.utf8.specs.Chars.{measured};
 ghost use Rattle.spans.specs.Spans.{many, Inside, octets};
@@ -19,15 +19,8 @@ ghost use Rattle.corpus.specs.Kept.{Keeping, Kept};
 ghost use Rattle.corpus.specs.Steps.{Lent, Weighing, Turning, Turns};
 
 use refusal::Refusal;
-use repeats::{Repeated, repeat};
-use utf8::{Text, measure};
-
-// All is in order, or why not.
-#[derive(Clone, Copy)]
-pub enum Checked {
-    Fine,
-    Refused(Refusal),
-}
+use repeats::repeat;
+use utf8::measure;
 
 // One more than the most that W may be.
 const TOO_HEAVY: u64 = refusal::WEIGHT + 1;
@@ -37,58 +30,38 @@ fn good(text: &[u8], words: &[u32], frequencies: &[u64], k: usize) -> bool
     requires { (k < many words.now) × (k < length frequencies.now) }
     ensures { Says result (GoodWord text.now words.now frequencies.now k) }
 {
-    if frequencies[k] == 0 {
-        return false;
-    }
     let long = spans::bytes(words, k);
-    if refusal::WORD_BYTES < long {
-        return false;
-    }
-    spans::from(words, k) + long <= text.len()
+    frequencies[k] != 0 && long <= refusal::WORD_BYTES && spans::from(words, k) + long <= text.len()
 }
 
 // The first word that is bad, UTF-8 or not.
-fn judge(text: &[u8], words: &[u32], frequencies: &[u64]) -> spans::Checked
+fn judge(text: &[u8], words: &[u32], frequencies: &[u64]) -> Result<(), usize>
     requires { length frequencies.now ≡ many words.now }
     ensures { Judges text.now words.now frequencies.now result }
 {
-    let many = spans::count(words);
-    let mut k = 0;
-    while k < many {
+    for k in 0..spans::count(words) {
         if !good(text, words, frequencies, k) {
-            return spans::Checked::BadAt(k);
+            return Err(k);
         }
-        k += 1;
     }
-    spans::Checked::Fine
+    Ok(())
 }
 
 // How many characters a word has, if it is UTF-8.
-fn characters(text: &[u8], words: &[u32], k: usize) -> Text
+fn characters(text: &[u8], words: &[u32], k: usize) -> Result<usize, usize>
     requires { (k < many words.now) × Inside text.now words.now k }
     ensures { result ≡ measured (octets text.now words.now k) }
 {
-    let low = spans::from(words, k);
-    let high = low + spans::bytes(words, k);
-    measure(&text[low..high])
+    measure(spans::octets(text, words, k))
 }
 
 // A weight and so many characters at a frequency more; past the bound all weights are one.
 fn heavier(weight: u64, frequency: u64, chars: u64) -> u64
-    requires { (weight ≤ 281474976710657) × (chars ≤ 255) }
     ensures { result ≡ min (weight + frequency * chars) 281474976710657 }
 {
-    if chars == 0 {
-        return weight;
-    }
-    if refusal::WEIGHT < frequency {
-        return TOO_HEAVY;
-    }
-    let sum = weight + frequency * chars;
-    if refusal::WEIGHT < sum {
-        return TOO_HEAVY;
-    }
-    sum
+    weight
+        .saturating_add(frequency.saturating_mul(chars))
+        .min(TOO_HEAVY)
 }
 
 // A weight and one word more, which is UTF-8 or weighs nothing.
@@ -97,8 +70,8 @@ fn weigh(text: &[u8], words: &[u32], frequencies: &[u64], k: usize, weight: u64)
     ensures { result ≡ min (weight + weight_at text.now words.now frequencies.now k) 281474976710657 }
 {
     match characters(text, words, k) {
-        Text::Chars(chars) => heavier(weight, frequencies[k], chars as u64),
-        Text::BadAt(_) => weight,
+        Ok(chars) => heavier(weight, frequencies[k], chars as u64),
+        Err(_) => weight,
     }
 }
 
@@ -107,12 +80,9 @@ fn heavy(text: &[u8], words: &[u32], frequencies: &[u64]) -> bool
     requires { Lent text.now words.now frequencies.now }
     ensures { Says result (281474976710656 < weight_of text.now words.now frequencies.now) }
 {
-    let many = spans::count(words);
     let mut weight: u64 = 0;
-    let mut k = 0;
-    while k < many {
+    for k in 0..spans::count(words) {
         weight = weigh(text, words, frequencies, k, weight);
-        k += 1;
     }
     refusal::WEIGHT < weight
 }
@@ -122,10 +92,7 @@ fn is_utf8(text: &[u8], words: &[u32], k: usize) -> bool
     requires { (k < many words.now) × Inside text.now words.now k }
     ensures { Says result (Utf8 text.now words.now k) }
 {
-    match characters(text, words, k) {
-        Text::Chars(_) => true,
-        Text::BadAt(_) => false,
-    }
+    characters(text, words, k).is_ok()
 }
 
 // Whether any word is UTF-8.
@@ -133,41 +100,37 @@ fn some_utf8(text: &[u8], words: &[u32]) -> bool
     requires { AllInside text.now words.now }
     ensures { Says result (SomeUtf8 text.now words.now) }
 {
-    let many = spans::count(words);
-    let mut k = 0;
-    while k < many {
+    for k in 0..spans::count(words) {
         if is_utf8(text, words, k) {
             return true;
         }
-        k += 1;
     }
     false
 }
 
 // Checks all words, with a work table that is left as it may be.
-pub fn check(text: &[u8], words: &[u32], frequencies: &[u64], table: &mut [u32]) -> Checked
+pub fn check(
+    text: &[u8],
+    words: &[u32],
+    frequencies: &[u64],
+    table: &mut [u32],
+) -> Result<(), Refusal>
     requires { Asked text.now words.now frequencies.now table.old }
     ensures { Answers text.now words.now frequencies.now result }
 {
-    match judge(text, words, frequencies) {
-        spans::Checked::BadAt(k) => {
-            return Checked::Refused(Refusal::BadWord(k as u64));
-        }
-        spans::Checked::Fine => {}
+    if let Err(k) = judge(text, words, frequencies) {
+        return Err(Refusal::BadWord(k as u64));
     }
-    match repeat(text, words, table) {
-        Repeated::At(k) => {
-            return Checked::Refused(Refusal::RepeatedWord(k as u64));
-        }
-        Repeated::Nothing => {}
+    if let Some(k) = repeat(text, words, table) {
+        return Err(Refusal::RepeatedWord(k as u64));
     }
     if heavy(text, words, frequencies) {
-        return Checked::Refused(Refusal::TooHeavy);
+        return Err(Refusal::TooHeavy);
     }
     if !some_utf8(text, words) {
-        return Checked::Refused(Refusal::EmptyCorpus);
+        return Err(Refusal::EmptyCorpus);
     }
-    Checked::Fine
+    Ok(())
 }
 
 // Puts a word's span and its frequency after the r that are kept, if it is UTF-8; answers how many are kept then.
@@ -183,11 +146,8 @@ fn turn(
     requires { Turning text.now words.now frequencies.now kept.old counts.old k r }
     ensures { Turns (measured (octets text.now words.now k)) words.now frequencies.now k r kept.old counts.old kept.new counts.new result }
 {
-    match characters(text, words, k) {
-        Text::BadAt(_) => {
-            return r;
-        }
-        Text::Chars(_) => {}
+    if characters(text, words, k).is_err() {
+        return r;
     }
     kept[2 * r] = words[2 * k];
     kept[2 * r + 1] = words[2 * k + 1];
@@ -207,12 +167,9 @@ pub fn utf8_words(
     requires { Keeping text.now words.now frequencies.now kept.old counts.old }
     ensures { Kept text.now words.now frequencies.now (many words.now) kept.old counts.old kept.new counts.new result }
 {
-    let many = spans::count(words);
     let mut r = 0;
-    let mut k = 0;
-    while k < many {
+    for k in 0..spans::count(words) {
         r = turn(text, words, frequencies, kept, counts, k, r);
-        k += 1;
     }
     r
 }

@@ -4,16 +4,15 @@ use mathlib.Core.Bool.{Bool, true}
 use mathlib.Core.List.{List}
 use Prim.Native.Nat.{ℕ}
 use lib.Ieee.{Float}
+use Rattle.std.specs.Prelude.{Option, Some, None, Err}
+use Rattle.std.specs.Option.{ok_or}
 use Rattle.laws.specs.Tests.{Says}
 use Rattle.laws.proofs.Tests.{said_yes, says_true}
 use Rattle.refusal.specs.declared.Refusal.{Refusal}
 use Rattle.refusal.specs.declared.Refusal.TheVariants.{NoPath}
 use Rattle.viterbi.specs.Slices.{WellFormed}
 use Rattle.viterbi.specs.Answers.{Asked, Answers as CoreAnswers}
-use Rattle.viterbi.specs.declared.Best.{Best}
-use Rattle.viterbi.specs.declared.Best.TheVariants.{Score as Top, NoPath as Nowhere}
-use Rattle.cut.specs.declared.Cut.TheVariants.{Score, Refused}
-use Rattle.cut.specs.Cut.{Lent, whole_lattice, Formed, Rooms, Bad, bad_lattice, bad_score, no_room, Why, bad, no_path, Answers}
+use Rattle.cut.specs.Cut.{Lent, whole_lattice, Formed, Rooms, Bad, bad_lattice, bad_score, no_room, Why, bad, no_path}
 use Rattle.cut.specs.Checked.{InOrder, Ready}
 
 -- the same refusal, for a room that says as much
@@ -29,21 +28,13 @@ well_formed x f = record { word = f }
 pub asked : {x : Lent} {best : List Float} {back path : List ℕ} → Ready x best back path → Asked x.offsets x.starts x.ids x.scores best back x.n
 asked {x} r = record { well_formed = well_formed x r.formed; scored = r.scored; best_room = r.rooms.0; back_room = r.rooms.1 }
 
-module _ {x : Lent} {best : List Float} {back path : List ℕ} (r : Ready x best back path) {path' : List ℕ} {b : Best} (count : ℕ) (core : CoreAnswers (whole_lattice x) x.ids x.n path path' b count) where
-  pub a_score : {score : Float} → b ≡ Top score → Answers x best back path path' (Score score count)
-  a_score e =
-      record {
-        formed = r.formed;
-        scored = r.scored;
-        rooms = r.rooms;
-        slots = r.slots;
-        found = subst (λ (t : Best). CoreAnswers (whole_lattice x) x.ids x.n path path' t count) e core;
-      }
-
-  pub no_score : b ≡ Nowhere → Answers x best back path path' (Refused NoPath)
-  no_score e =
-      let m = subst (λ (t : Best). CoreAnswers (whole_lattice x) x.ids x.n path path' t count) e core in
-      (no_path r.formed r.scored r.rooms r.slots m.none, m.kept)
+-- no score is told as no path
+pub no_score : {x : Lent} {best : List Float} {back path : List ℕ} → Ready x best back path → {path' : List ℕ} {refusal : Refusal} (b : Option Float) (count : ℕ) → ok_or b NoPath ≡ Err refusal → CoreAnswers (whole_lattice x) x.ids x.n path path' b count
+    → Why x best back path refusal × (path' ≡ path)
+no_score r (Some top) count e found = absurd cc
+no_score {x} {best} {back} {path} r {refusal = refusal} None count e missed =
+    let same : NoPath ≡ refusal = cc in
+    (subst (Why x best back path) same (no_path r.formed r.scored r.rooms r.slots missed.none), missed.kept)
 
 -- what the check says of the rooms that were tested
 module _ (x : Lent) (best : List Float) (back : List ℕ) (path : List ℕ) (room : Bool) (says : Says room (Rooms x.n best back)) where

@@ -1,5 +1,6 @@
 -- Demand 3, second part, of the function that callers call. And no second outcome fits. Assumes nothing.
 use mathlib.Core.Path.{◌≡◌, refl, sym, ap, ap₂, ◌∙◌, subst}
+use mathlib.Core.Bool.{Bool, true, false}
 use mathlib.Core.Logic.{◌↔◌}
 use mathlib.Core.List.{List, ◌++◌}
 use Prim.Native.Nat.{ℕ}
@@ -7,6 +8,7 @@ use native.Mathlib.Nat.{lt_irrefl}
 use native.Mathlib.Omega.{arith}
 use lib.ListN.{length, drop}
 use lib.Ieee.{Float}
+use Rattle.std.specs.Prelude.{Result, Ok, Err}
 use Rattle.laws.proofs.Outcome.{one_outcome}
 use Rattle.refusal.specs.declared.Refusal.{Refusal}
 use Rattle.refusal.specs.declared.Refusal.TheVariants.{BadScore}
@@ -19,15 +21,8 @@ use Rattle.lent.proofs.Theorems.{one_bad}
 use Rattle.viterbi.specs.Walk.{spell}
 use Rattle.viterbi.proofs.Shapes.{sound}
 use Rattle.cut.specs.declared.Cut.{Cut}
-use Rattle.cut.specs.declared.Cut.TheVariants.{Score, Refused}
 use Rattle.cut.specs.Cut.{Lent, whole_lattice, Formed, Scored, Bad, bad_lattice, bad_score, no_room, Why, bad, no_slots, no_path, Given, Answers, Excludes}
 use Rattle.cut.specs.Checked.{Ready}
-use Rattle.cut.specs.declared.Excluded.{Excluded}
-use Rattle.cut.specs.declared.Excluded.TheVariants.{Score as Best, Refused as Denied}
-use Rattle.cut.specs.declared.Expected.{Expected}
-use Rattle.cut.specs.declared.Expected.TheVariants.{Sum, Refused as Unsummed}
-use Rattle.cut.specs.declared.Connection.{Connection}
-use Rattle.cut.specs.declared.Connection.TheVariants.{Cuts, NoCut, Refused as Unconnected}
 use Rattle.cut.specs.Sums.{Unasked, bad_lattice as unlinked, no_room as unroomed, Asked, Connects, Expects}
 use Rattle.cut.proofs.Cutting.{well_formed}
 
@@ -50,9 +45,9 @@ pub record IsBest (x : Lent) (score : Float) : Type 0 where
   pub sum_is : score ≡ sum f64s (whole_lattice x) cut
   pub greatest : Greatest f64s (whole_lattice x) x.n score
 
-pub record Answered (x : Lent) (r : Cut) : Type 0 where
-  pub exactly : FiniteCut (whole_lattice x) x.n ↔ ((score : Float) × (count : ℕ) × (r ≡ Score score count))
-  pub is_best : (score : Float) (count : ℕ) → r ≡ Score score count → IsBest x score
+pub record Answered (x : Lent) (r : Result Cut Refusal) : Type 0 where
+  pub exactly : FiniteCut (whole_lattice x) x.n ↔ ((cut : Cut) × (r ≡ Ok cut))
+  pub is_best : (cut : Cut) → r ≡ Ok cut → IsBest x cut.score
 
 ready : {x : Lent} {best : List Float} {back path path' : List ℕ} {score : Float} {count : ℕ} → Given x best back path path' score count → Ready x best back path
 ready g = record { formed = g.formed; scored = g.scored; rooms = g.rooms; slots = g.slots }
@@ -61,24 +56,17 @@ finite_cut : {x : Lent} {best : List Float} {back path path' : List ℕ} {score 
 finite_cut {x} g = record { cut = g.found.cut; is_cut = (theorem x g.formed g.scored).is_cut g.found.cut g.found.is_best; is_finite = g.found.is_best.is_finite }
 
 -- Of a lattice that is well formed, scores that are zero or below, and room for all: what `viterbi` answers.
-pub answered : (x : Lent) (best : List Float) (back path path' : List ℕ) → Ready x best back path → (r : Cut) → Answers x best back path path' r → Answered x r
-answered x best back path path' r (Score score count) g =
+pub answered : (x : Lent) (best : List Float) (back path path' : List ℕ) → Ready x best back path → (r : Result Cut Refusal) → Answers x best back path path' r → Answered x r
+answered x best back path path' r (Ok cut) g =
     record {
-      exactly = (λ c. (score, count, refl), λ _. finite_cut g);
-      is_best = λ s c e.
-          let same : score ≡ s = cc in
+      exactly = (λ c. (cut, refl), λ _. finite_cut g);
+      is_best = λ other e.
+          let same : cut.score ≡ other.score = cc in
           let t = theorem x g.formed g.scored in
           let f = g.found in
           record { cut = f.cut; is_cut = t.is_cut f.cut f.is_best; sum_is = sym same ∙ f.score_is; greatest = subst (Greatest f64s (whole_lattice x) x.n) (sym f.score_is ∙ same) (t.greatest f.cut f.is_best) };
     }
-answered x best back path path' r (Refused refusal) (w, kept) =
-    record {
-      exactly = (λ c. absurd (never r c w), λ (s, c, e). absurd (apart e));
-      is_best = λ s c e. absurd (apart e);
-    }
-  where
-    apart : {s : Float} {c : ℕ} → Refused refusal ≡ Score s c → ⊥
-    apart e = let z : ◌≡◌ {A = ℕ} 0 1 = cc in lt_irrefl 0 (omega arith)
+answered x best back path path' r (Err refusal) (w, kept) = record { exactly = (λ c. absurd (never r c w), λ (cut, e). absurd cc); is_best = λ cut e. absurd cc }
 
 -- ---- no second outcome
 module _ {x : Lent} where
@@ -110,30 +98,30 @@ module _ {x : Lent} {best : List Float} {back path : List ℕ} where
   one_why (no_path f s m l n) (no_slots g t o k) = absurd (lt_irrefl (length path) (omega arith))
   one_why (no_path f s m l n) (no_path g t o k p) = refl
 
-pub no_second : (x : Lent) (best : List Float) (back path path' path'' : List ℕ) (r s : Cut) → Answers x best back path path' r → Answers x best back path path'' s → (path' ≡ path'') × (r ≡ s)
-no_second x best back path path' path'' (Score a c) (Score b d) p q =
+pub no_second : (x : Lent) (best : List Float) (back path path' path'' : List ℕ) (r s : Result Cut Refusal) → Answers x best back path path' r → Answers x best back path path'' s → (path' ≡ path'') × (r ≡ s)
+no_second x best back path path' path'' (Ok a) (Ok b) p q =
     let f = p.found in
     let g = q.found in
     let e : f.cut ≡ g.cut = (theorem x p.formed p.scored).no_second f.cut g.cut f.is_best g.is_best in
-    let s : a ≡ b = f.score_is ∙ ap (sum f64s (whole_lattice x)) e ∙ sym g.score_is in
-    let n : c ≡ d = f.count_is ∙ ap length e ∙ sym g.count_is in
-    (f.written ∙ ap₂ (λ (k : List ℕ) (m : ℕ). spell x.ids k ++ drop m path) e n ∙ sym g.written, ap₂ Score s n)
-no_second x best back path path' path'' (Score a c) (Refused t) p (w, kept) = absurd (never (ready p) (finite_cut p) w)
-no_second x best back path path' path'' (Refused r) (Score b d) (w, kept) q = absurd (never (ready q) (finite_cut q) w)
-no_second x best back path path' path'' (Refused r) (Refused s) (v, k) (w, l) = (one_outcome k l, ap Refused (one_why v w))
+    let s : a.score ≡ b.score = f.score_is ∙ ap (sum f64s (whole_lattice x)) e ∙ sym g.score_is in
+    let n : a.count ≡ b.count = f.count_is ∙ ap length e ∙ sym g.count_is in
+    (f.written ∙ ap₂ (λ (k : List ℕ) (m : ℕ). spell x.ids k ++ drop m path) e n ∙ sym g.written, ap₂ (λ (score : Float) (count : ℕ). Ok (record { score = score; count = count })) s n)
+no_second x best back path path' path'' (Ok a) (Err t) p (w, kept) = absurd (never (ready p) (finite_cut p) w)
+no_second x best back path path' path'' (Err r) (Ok b) (w, kept) q = absurd (never (ready q) (finite_cut q) w)
+no_second x best back path path' path'' (Err r) (Err s) (v, k) (w, l) = (one_outcome k l, ap Err (one_why v w))
 
 -- ---- the other calls
-pub one_excluded : (x : Lent) (piece : ℕ) (best : List Float) (r s : Excluded) → Excludes x piece best r → Excludes x piece best s → r ≡ s
-one_excluded x piece best (Best a) (Best b) p q = ap Best (one_outcome p.greatest_is q.greatest_is)
-one_excluded x piece best (Best a) (Denied s) p q = absurd (not_bad p.formed p.scored p.room q)
-one_excluded x piece best (Denied r) (Best b) p q = absurd (not_bad q.formed q.scored q.room p)
-one_excluded x piece best (Denied r) (Denied s) p q = ap Denied (one_bad_way p q)
+pub one_excluded : (x : Lent) (piece : ℕ) (best : List Float) (r s : Result Float Refusal) → Excludes x piece best r → Excludes x piece best s → r ≡ s
+one_excluded x piece best (Ok a) (Ok b) p q = ap Ok (one_outcome p.greatest_is q.greatest_is)
+one_excluded x piece best (Ok a) (Err s) p q = absurd (not_bad p.formed p.scored p.room q)
+one_excluded x piece best (Err r) (Ok b) p q = absurd (not_bad q.formed q.scored q.room p)
+one_excluded x piece best (Err r) (Err s) p q = ap Err (one_bad_way p q)
 
-pub one_expected : (x : Lent) (alpha beta emitted emitted' emitted'' : List Float) (r s : Expected) → Expects x alpha beta emitted emitted' r → Expects x alpha beta emitted emitted'' s → (emitted' ≡ emitted'') × (r ≡ s)
-one_expected x alpha beta emitted emitted' emitted'' (Sum a) (Sum b) p q = (one_outcome p.shares_are q.shares_are, ap Sum (one_outcome p.sum_is q.sum_is))
-one_expected x alpha beta emitted emitted' emitted'' (Sum a) (Unsummed s) p (w, k) = absurd (not_bad p.formed p.scored p.rooms w)
-one_expected x alpha beta emitted emitted' emitted'' (Unsummed r) (Sum b) (w, k) q = absurd (not_bad q.formed q.scored q.rooms w)
-one_expected x alpha beta emitted emitted' emitted'' (Unsummed r) (Unsummed s) (v, k) (w, l) = (one_outcome k l, ap Unsummed (one_bad_way v w))
+pub one_expected : (x : Lent) (alpha beta emitted emitted' emitted'' : List Float) (r s : Result Float Refusal) → Expects x alpha beta emitted emitted' r → Expects x alpha beta emitted emitted'' s → (emitted' ≡ emitted'') × (r ≡ s)
+one_expected x alpha beta emitted emitted' emitted'' (Ok a) (Ok b) p q = (one_outcome p.shares_are q.shares_are, ap Ok (one_outcome p.sum_is q.sum_is))
+one_expected x alpha beta emitted emitted' emitted'' (Ok a) (Err s) p (w, k) = absurd (not_bad p.formed p.scored p.rooms w)
+one_expected x alpha beta emitted emitted' emitted'' (Err r) (Ok b) (w, k) q = absurd (not_bad q.formed q.scored q.rooms w)
+one_expected x alpha beta emitted emitted' emitted'' (Err r) (Err s) (v, k) (w, l) = (one_outcome k l, ap Err (one_bad_way v w))
 
 module _ (offsets starts ids : List ℕ) (n : ℕ) (reach : List ℕ) where
   not_unasked : {P : Type 0} {r : Refusal} → Asked offsets starts ids n reach P → Unasked offsets starts ids n reach r → ⊥
@@ -146,13 +134,11 @@ module _ (offsets starts ids : List ℕ) (n : ℕ) (reach : List ℕ) where
   one_unasked (unroomed l a) (unlinked b) = absurd (b l)
   one_unasked (unroomed l a) (unroomed m b) = refl
 
-  pub one_connection : (r s : Connection) → Connects offsets starts ids n reach r → Connects offsets starts ids n reach s → r ≡ s
-  one_connection Cuts Cuts p q = refl
-  one_connection Cuts NoCut p q = absurd (q.answer p.answer)
-  one_connection Cuts (Unconnected s) p q = absurd (not_unasked p q)
-  one_connection NoCut Cuts p q = absurd (p.answer q.answer)
-  one_connection NoCut NoCut p q = refl
-  one_connection NoCut (Unconnected s) p q = absurd (not_unasked p q)
-  one_connection (Unconnected r) Cuts p q = absurd (not_unasked q p)
-  one_connection (Unconnected r) NoCut p q = absurd (not_unasked q p)
-  one_connection (Unconnected r) (Unconnected s) p q = ap Unconnected (one_unasked p q)
+  pub one_connection : (r s : Result Bool Refusal) → Connects offsets starts ids n reach r → Connects offsets starts ids n reach s → r ≡ s
+  one_connection (Ok true) (Ok true) p q = refl
+  one_connection (Ok true) (Ok false) p q = absurd (q.answer p.answer)
+  one_connection (Ok false) (Ok true) p q = absurd (p.answer q.answer)
+  one_connection (Ok false) (Ok false) p q = refl
+  one_connection (Ok a) (Err s) p q = absurd (not_unasked p q)
+  one_connection (Err r) (Ok b) p q = absurd (not_unasked q p)
+  one_connection (Err r) (Err s) p q = ap Err (one_unasked p q)

@@ -1,7 +1,6 @@
 -- What the check of a lent lattice answers, for whatever room the caller has tested. Definitions only.
-use Rattle.std.specs.Prelude.{◌≡◌, Bool, true, List, ℕ, ◌≤◌, length, Float}
-use Rattle.cut.specs.declared.Checked.{Checked}
-use Rattle.cut.specs.declared.Checked.TheVariants.{Fine, Refused}
+use Rattle.std.specs.Prelude.{◌≡◌, Bool, true, List, ℕ, ◌≤◌, length, Float, Result, Ok, Err}
+use Rattle.refusal.specs.declared.Refusal.{Refusal}
 use Rattle.cut.specs.Cut.{Lent, Formed, Scored, Bad, Rooms}
 
 pub record InOrder (x : Lent) (room : Bool) : Type 0 where
@@ -9,9 +8,9 @@ pub record InOrder (x : Lent) (room : Bool) : Type 0 where
   pub scored : Scored x
   pub roomy : room ≡ true
 
-abbrev pub Checks : Lent → Bool → Checked → Type 0
-Checks x room Fine = InOrder x room
-Checks x room (Refused refusal) = Bad x (room ≡ true) refusal
+abbrev pub Checks : Lent → Bool → Result (Unit {0}) Refusal → Type 0
+Checks x room (Ok _) = InOrder x room
+Checks x room (Err refusal) = Bad x (room ≡ true) refusal
 
 -- all that the best cut asks
 pub record Ready (x : Lent) (best : List Float) (back path : List ℕ) : Type 0 where

@@ -1,6 +1,6 @@
 -- The best cut of a lent lattice, when it is refused and what it leaves: document 01, "Viterbi checks 9, 10, 7, 11, 12".
 -- Definitions only.
-use Rattle.std.specs.Prelude.{◌≡◌, false, List, ℕ, ◌≤◌, ◌<◌, pos, length, replicate, Float}
+use Rattle.std.specs.Prelude.{◌≡◌, false, List, ℕ, ◌≤◌, ◌<◌, pos, length, replicate, Float, Result, Ok, Err}
 use Rattle.std.specs.Float.{fin}
 use Rattle.refusal.specs.declared.Refusal.{Refusal}
 use Rattle.refusal.specs.declared.Refusal.TheVariants.{BadLattice, BadScore, NoRoom, NoPath}
@@ -13,9 +13,6 @@ use Rattle.lent.specs.Lent.{AllScored, FirstBad}
 use Rattle.viterbi.specs.Slices.{lattice_of, without}
 use Rattle.viterbi.specs.Answers.{Found}
 use Rattle.cut.specs.declared.Cut.{Cut}
-use Rattle.cut.specs.declared.Cut.TheVariants.{Score, Refused}
-use Rattle.cut.specs.declared.Excluded.{Excluded}
-use Rattle.cut.specs.declared.Excluded.TheVariants.{Score as Best, Refused as Denied}
 
 -- one word's lattice and the scores, as they are lent
 pub record Lent : Type 0 where
@@ -62,9 +59,9 @@ pub record Given (x : Lent) (best : List Float) (back path path' : List ℕ) (sc
   pub found : Found (whole_lattice x) x.ids x.n path path' score count
 
 -- "A refusal changes no result slice, cache or path"
-abbrev pub Answers : Lent → List Float → List ℕ → List ℕ → List ℕ → Cut → Type 0
-Answers x best back path path' (Score score count) = Given x best back path path' score count
-Answers x best back path path' (Refused refusal) = Why x best back path refusal × (path' ≡ path)
+abbrev pub Answers : Lent → List Float → List ℕ → List ℕ → List ℕ → Result Cut Refusal → Type 0
+Answers x best back path path' (Ok cut) = Given x best back path path' cut.score cut.count
+Answers x best back path path' (Err refusal) = Why x best back path refusal × (path' ≡ path)
 
 -- ---- the best score without a piece
 pub record Without (x : Lent) (excluded : ℕ) (best : List Float) (score : Float) : Type 0 where
@@ -73,9 +70,9 @@ pub record Without (x : Lent) (excluded : ℕ) (best : List Float) (score : Floa
   pub room : Positions x.n (length best)
   pub greatest_is : score ≡ greatest f64s (lattice_of x.offsets x.starts x.ids (without excluded x.scores)) x.n
 
-abbrev pub Excludes : Lent → ℕ → List Float → Excluded → Type 0
-Excludes x excluded best (Best score) = Without x excluded best score
-Excludes x excluded best (Denied refusal) = Bad x (Positions x.n (length best)) refusal
+abbrev pub Excludes : Lent → ℕ → List Float → Result Float Refusal → Type 0
+Excludes x excluded best (Ok score) = Without x excluded best score
+Excludes x excluded best (Err refusal) = Bad x (Positions x.n (length best)) refusal
 
 -- "Work slices hold zeros after every call"
 abbrev pub zeros : ℕ → List ℕ

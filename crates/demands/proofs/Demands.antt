@@ -11,6 +11,7 @@ use lib.Dec.{T, ltb}
 use lib.Ieee.{binary64, fits, le}
 use lib.ListN.{length, take, length-append, length-map}
 use lib.Seq.{take-append_seam}
+use Rattle.std.specs.Prelude.{Result, Ok, Err}
 use Rattle.refusal.specs.declared.Refusal.{Refusal}
 use Rattle.refusal.specs.Numbers.{number_of}
 use Rattle.utf8.specs.Encode.{spelling}
@@ -21,8 +22,6 @@ use Rattle.lattice.specs.Pruning.{Prunings, survivors_of}
 use Rattle.trie.proofs.Same.{length_first}
 use Rattle.listing.specs.Start as start
 use Rattle.fresh.specs.Build as fresh
-use Rattle.fresh.specs.declared.Built.{Built}
-use Rattle.fresh.specs.declared.Built.TheVariants.{Edges}
 use Rattle.cache.proofs.Theorems.{Calls}
 use Rattle.cache.proofs.Builds as builds
 use Rattle.cut.specs.declared.Cut.{Cut}
@@ -37,9 +36,8 @@ use Rattle.begun.proofs.Distinct.{seeded_distinct}
 use Rattle.tokens.specs.Tokens.{texts_of}
 use Rattle.make.specs.Make.{Results, final}
 use Rattle.make.specs.declared.Trained.{Trained}
-use Rattle.make.specs.declared.Trained.TheVariants.{Tokens, Refused}
 use Rattle.training.specs.Train.{Work, seeding_work, Seeds, Why, Gives, Answers, Zeros}
-use Rattle.demands.specs.Demands.{InTable, TheTokens, Carries}
+use Rattle.demands.specs.Demands.{InTable, given, TheTokens, Carries}
 use Rattle.demands.proofs.NoSecond as second
 use Rattle.demands.proofs.Rows.{row, row_number}
 use Rattle.demands.proofs.Rounds as rounds
@@ -48,33 +46,33 @@ use Rattle.demands.proofs.Rounds as rounds
 -- which `Answers x w y y' r` and `Zeros w w'` hold.
 module _ (x : start.Lent) (w : Work) (y y' : Results) where
   -- "A refusal leaves result tables untouched."
-  pub refusal_untouched : {refusal : Refusal} → Answers x w y y' (Refused refusal) → y' ≡ y
+  pub refusal_untouched : {refusal : Refusal} → Answers x w y y' (Err refusal) → y' ≡ y
   refusal_untouched a = a.1
 
   -- "Bad input is refused by number and place": by a row of the table, at a place that the row has,
-  pub by_number_and_place : {refusal : Refusal} → Answers x w y y' (Refused refusal) → InTable x refusal
+  pub by_number_and_place : {refusal : Refusal} → Answers x w y y' (Err refusal) → InTable x refusal
   by_number_and_place a = row x {w = w} {y = y} a.0
 
   -- whose number is one of 2 to 8;
-  pub numbers : {refusal : Refusal} → Answers x w y y' (Refused refusal) → (2 ≤ number_of refusal) × (number_of refusal ≤ 8)
+  pub numbers : {refusal : Refusal} → Answers x w y y' (Err refusal) → (2 ≤ number_of refusal) × (number_of refusal ≤ 8)
   numbers {refusal} a = row_number x refusal (by_number_and_place a)
 
   -- "Given exactly when": the refusal is given where the table says so, and nowhere else,
-  pub refused_exactly : (r : Trained) → Answers x w y y' r → (refusal : Refusal) → Why x w y refusal ↔ (r ≡ Refused refusal)
+  pub refused_exactly : (r : Result Trained Refusal) → Answers x w y y' r → (refusal : Refusal) → Why x w y refusal ↔ (r ≡ Err refusal)
   refused_exactly r a refusal =
-      (λ why. (second.no_second x w y y' y r (Refused refusal) a (why, refl)).0, λ e. (subst (Answers x w y y') e a).0)
+      (λ why. (second.no_second x w y y' y r (Err refusal) a (why, refl)).0, λ e. (subst (Answers x w y y') e a).0)
 
   -- so that no trainer that refuses everything fits: where tokens can be given, they are.
-  pub given_exactly : (r : Trained) → Answers x w y y' r → {y'' : Results} {count required : ℕ} {over : Bool} → Gives x w y y'' count required over
-      → (r ≡ Tokens count required over) × (y' ≡ y'')
-  given_exactly r a {y''} {count} {required} {over} g = second.no_second x w y y' y'' r (Tokens count required over) a g
+  pub given_exactly : (r : Result Trained Refusal) → Answers x w y y' r → {y'' : Results} {count required : ℕ} {over : Bool} → Gives x w y y'' count required over
+      → (r ≡ given count required over) × (y' ≡ y'')
+  given_exactly r a {y''} {count} {required} {over} g = second.no_second x w y y' y'' r (given count required over) a g
 
-  pub accepted_or_refused_not_both : {y'' : Results} {count required : ℕ} {over : Bool} {refusal : Refusal} → Answers x w y y' (Tokens count required over)
-      → Answers x w y y'' (Refused refusal) → ⊥
+  pub accepted_or_refused_not_both : {y'' : Results} {count required : ℕ} {over : Bool} {refusal : Refusal} → Answers x w y y' (given count required over)
+      → Answers x w y y'' (Err refusal) → ⊥
   accepted_or_refused_not_both g r = second.never x w y g r.0
 
 -- "Prove that no second outcome fits": of the answer and the results, and of the work slices.
-pub no_second : (x : start.Lent) (w : Work) (y y' y'' : Results) (r s : Trained) → Answers x w y y' r → Answers x w y y'' s → (r ≡ s) × (y' ≡ y'')
+pub no_second : (x : start.Lent) (w : Work) (y y' y'' : Results) (r s : Result Trained Refusal) → Answers x w y y' r → Answers x w y y'' s → (r ≡ s) × (y' ≡ y'')
 no_second x w y y' y'' r s a b = second.no_second x w y y' y'' r s a b
 
 pub one_work : (w w' w'' : Work) → Zeros w w' → Zeros w w'' → w' ≡ w''
@@ -89,7 +87,7 @@ tokens_many x m =
     let c = length-map m.pieces spelling in
     omega arith
 
-pub same_answer : (x : start.Lent) (w : Work) (y y' : Results) (count required : ℕ) (over : Bool) → Answers x w y y' (Tokens count required over) → TheTokens x y y' count required over
+pub same_answer : (x : start.Lent) (w : Work) (y y' : Results) (count required : ℕ) (over : Bool) → Answers x w y y' (given count required over) → TheTokens x y y' count required over
 same_answer x w y y' count required over g =
     let f = g.made.filled in
     record {
@@ -103,7 +101,7 @@ same_answer x w y y' count required over g =
     }
 
 -- What the tokens are, by the port order's sentences:
-module _ (x : start.Lent) (w : Work) (y y' : Results) (count required : ℕ) (over : Bool) (a : Answers x w y y' (Tokens count required over)) where
+module _ (x : start.Lent) (w : Work) (y y' : Results) (count required : ℕ) (over : Bool) (a : Answers x w y y' (given count required over)) where
   abbrev task : Task
   task = task_of x required
 
@@ -143,14 +141,14 @@ module _ (x : start.Lent) (w : Work) (y y' : Results) (count required : ℕ) (ov
 
 -- ==== Demand 3, first part: "after each of any number of prunings" the kept lattices are, edge for edge and offset for offset,
 -- those built afresh from the survivors. Of `cache::build` and then any number of calls of `cache::retain`:
-pub lattices_in_step : {x : fresh.Lent} {y : fresh.Results} {w : fresh.Work} → builds.Ready x y w → {y' : fresh.Results} (r : Built) → fresh.Answers x y w y' r
+pub lattices_in_step : {x : fresh.Lent} {y : fresh.Results} {w : fresh.Work} → builds.Ready x y w → {y' : fresh.Results} (r : Result ℕ Refusal) → fresh.Answers x y w y' r
     → {remaps : List (List ℕ)} → Prunings (listed x.spellings x.pieces) remaps → {z : fresh.Results} → Calls (many x.words) remaps y' z
     → builds.Kept x remaps z
 lattices_in_step ready r a prunings calls = builds.always_in_step ready r a prunings calls
 
 -- so they are, slot for slot, what a build of the survivors leaves.
 pub as_built_afresh : {x : fresh.Lent} {remaps : List (List ℕ)} {z : fresh.Results} → builds.Kept x remaps z
-    → {x' : fresh.Lent} {y : fresh.Results} {w : fresh.Work} {y' : fresh.Results} (count : ℕ) → fresh.Answers x' y w y' (Edges count)
+    → {x' : fresh.Lent} {y : fresh.Results} {w : fresh.Work} {y' : fresh.Results} (count : ℕ) → fresh.Answers x' y w y' (Ok count)
     → x'.setting ≡ x.setting → listed x'.spellings x'.pieces ≡ survivors_of remaps (listed x.spellings x.pieces) → listed x'.text x'.words ≡ listed x.text x.words
     → builds.SameLengths z y' → z ≡ y'
 as_built_afresh {x} {remaps} {z} kept {x'} {y} {w} {y'} count a s p t same = builds.as_built_afresh {x = x} {remaps = remaps} {z = z} kept {x' = x'} {y = y} {w = w} {y' = y'} count a s p t same
@@ -171,5 +169,5 @@ training_to_the_end x w pieces required s h = rounds.to_the_end x w pieces requi
 
 -- ==== Demand 3, second part: "a best cut is given exactly when some cut's left-to-right rounded sum is finite; its sum is the
 -- greatest there is, and its pieces spell the word". Of `one_word::cut`:
-pub best_cut : (x : word.Lent) (w : fresh.Work) (path path' : List ℕ) → one_word.Ready x w path → (r : Cut) → word.Answers x w path path' r → one_word.Answered x path' r
+pub best_cut : (x : word.Lent) (w : fresh.Work) (path path' : List ℕ) → one_word.Ready x w path → (r : Result Cut Refusal) → word.Answers x w path path' r → one_word.Answered x path' r
 best_cut x w path path' ready r a = one_word.answered x w path path' ready r a

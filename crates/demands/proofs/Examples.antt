@@ -7,15 +7,14 @@ use Prim.Native.Nat.{ℕ, ◌≤◌}
 use lib.IntN.{pos}
 use lib.ListN.{length}
 use lib.Ieee.{Float, nan, fin, binary64, of_bits}
-use Rattle.utf8.specs.Decode.{decoded}
-use Rattle.utf8.specs.declared.Decoded.TheVariants.{Bad, Char}
+use Rattle.std.specs.Prelude.{Some, None}
+use Rattle.utf8.specs.Decode.{character, decoded}
 use Rattle.utf8.proofs.Theorems.{examples}
 use Rattle.lattice.specs.Lattice.{cache}
 use Rattle.lattice.specs.Layout.{flat}
 use Rattle.lattice.specs.Pruning.{gone, retained}
 use Rattle.lattice.proofs.Theorems as lattice
 use Rattle.viterbi.specs.Slices.{Scored}
-use Rattle.viterbi.specs.declared.Best.TheVariants.{Score, NoPath}
 use Rattle.viterbi.proofs.Examples as viterbi
 use Rattle.ranking.specs.Seed.{Seeded}
 use Rattle.ranking.proofs.Examples as ranking
@@ -63,14 +62,14 @@ pub record Examples : Type 0 where
   -- "b pruned: 0,1,0; 0,2,1; 1,3,2; 2,3,0; offsets 0 0 1 2 4"
   pub pruned : flat (retained (0 ∷ gone ∷ 1 ∷ 2 ∷ []) (cache 16 four (aba ∷ []))) ≡ record { starts = 0 ∷ 0 ∷ 1 ∷ 2 ∷ []; ids = 0 ∷ 1 ∷ 2 ∷ 0 ∷ []; ends = 0 ∷ 0 ∷ 1 ∷ 2 ∷ 4 ∷ []; spans = 0 ∷ 4 ∷ 0 ∷ 3 ∷ [] }
   -- "scores -1 -1 -2 -2: aba gives 0, 3 and -3"
-  pub best : (x y z : ℕ) → viterbi.Comes four aba (minus_one ∷ minus_one ∷ minus_two ∷ minus_two ∷ []) (x ∷ y ∷ z ∷ []) (record { best = Score minus_three; count = 2; slots = 0 ∷ 3 ∷ z ∷ [] })
+  pub best : (x y z : ℕ) → viterbi.Comes four aba (minus_one ∷ minus_one ∷ minus_two ∷ minus_two ∷ []) (x ∷ y ∷ z ∷ []) (record { best = Some minus_three; count = 2; slots = 0 ∷ 3 ∷ z ∷ [] })
   -- "word ab, only a and b, each -1.7e308: NoPath"
-  pub no_path : (x y : ℕ) → viterbi.Comes (a ∷ b ∷ []) ab (steep ∷ steep ∷ []) (x ∷ y ∷ []) (record { best = NoPath; count = 0; slots = x ∷ y ∷ [] })
+  pub no_path : (x y : ℕ) → viterbi.Comes (a ∷ b ∷ []) ab (steep ∷ steep ∷ []) (x ∷ y ∷ []) (record { best = None; count = 0; slots = x ∷ y ∷ [] })
   -- "with ab at -3: that piece"
-  pub that_piece : (x y : ℕ) → viterbi.Comes (a ∷ b ∷ ab ∷ []) ab (steep ∷ steep ∷ minus_three ∷ []) (x ∷ y ∷ []) (record { best = Score minus_three; count = 1; slots = 2 ∷ y ∷ [] })
+  pub that_piece : (x y : ℕ) → viterbi.Comes (a ∷ b ∷ ab ∷ []) ab (steep ∷ steep ∷ minus_three ∷ []) (x ∷ y ∷ []) (record { best = Some minus_three; count = 1; slots = 2 ∷ y ∷ [] })
   -- "empty word: no pieces, score 0, accepted"
   pub empty : (pieces : List (List ℕ)) (scores : List Float) → length scores ≡ length pieces → Scored scores → (before : List ℕ)
-      → viterbi.Comes pieces [] scores before (record { best = Score (fin false 0 (pos 0)); count = 0; slots = before })
+      → viterbi.Comes pieces [] scores before (record { best = Some (fin false 0 (pos 0)); count = 0; slots = before })
   -- "aba of frequency 2, minimum 2: a, b, aba, ab, ba; minimum 3: a, b"
   pub minimum_2 : (pool : ℕ) → 5 ≤ pool → Seeded ((aba, 2) ∷ []) 16 2 pool (a ∷ b ∷ aba ∷ ab ∷ ba ∷ []) 2
   pub minimum_3 : (pool : ℕ) → Seeded ((aba, 2) ∷ []) 16 3 pool (a ∷ b ∷ []) 2
@@ -79,10 +78,10 @@ pub record Examples : Type 0 where
   pub ten_to_eight : keep_of 10 three_quarters 8 ≡ 8
   pub ten_nan : keep_of 10 nan 8 ≡ 8
   -- "ED A0 80, C0 80, F4 90 80 80 refused; F4 8F BF BF accepted"
-  pub surrogate : decoded (0xED ∷ 0xA0 ∷ 0x80 ∷ []) ≡ Bad
-  pub overlong : decoded (0xC0 ∷ 0x80 ∷ []) ≡ Bad
-  pub too_high : decoded (0xF4 ∷ 0x90 ∷ 0x80 ∷ 0x80 ∷ []) ≡ Bad
-  pub highest : decoded (0xF4 ∷ 0x8F ∷ 0xBF ∷ 0xBF ∷ []) ≡ Char 0x10FFFF 4
+  pub surrogate : decoded (0xED ∷ 0xA0 ∷ 0x80 ∷ []) ≡ None
+  pub overlong : decoded (0xC0 ∷ 0x80 ∷ []) ≡ None
+  pub too_high : decoded (0xF4 ∷ 0x90 ∷ 0x80 ∷ 0x80 ∷ []) ≡ None
+  pub highest : decoded (0xF4 ∷ 0x8F ∷ 0xBF ∷ 0xBF ∷ []) ≡ character 0x10FFFF 4
 
 -- All of them hold.
 pub table : Examples

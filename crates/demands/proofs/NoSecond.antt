@@ -7,32 +7,29 @@ use native.Mathlib.Nat.{lt_irrefl}
 use native.Mathlib.Omega.{arith}
 use Rattle.laws.proofs.Outcome.{one_outcome}
 use Rattle.refusal.specs.declared.Refusal.{Refusal}
-use Rattle.settings.specs.declared.Checked.TheVariants.{Fine, Refused as BadSettings}
+use Rattle.std.specs.Prelude.{Result, Ok, Err}
 use Rattle.settings.specs.Check.{InBounds, Why as NotInBounds}
 use Rattle.settings.proofs.Theorems as settings
-use Rattle.corpus.specs.declared.Checked.TheVariants.{Fine as WordsFine, Refused as BadWords}
 use Rattle.corpus.specs.Check.{InOrder, Why as NotInOrder}
 use Rattle.corpus.proofs.Theorems as words
 use Rattle.ranking.proofs.Theorems.{seeded_unique, uncut_unique}
 use Rattle.listing.specs.Start as start
 use Rattle.listing.specs.Start.{bad_settings, no_room, bad_words, bad, no_slots}
-use Rattle.listing.specs.declared.Started.TheVariants.{Refused as Unstarted}
 use Rattle.start.proofs.Theorems as starting
 use Rattle.fresh.specs.Build as fresh
 use Rattle.model.specs.Model.{Model, Task}
 use Rattle.begun.specs.First.{Unlaid, no_trie, no_cache}
 use Rattle.make.specs.Make.{Results, Late, too_small, unlaid, no_results, Made}
 use Rattle.make.specs.declared.Trained.{Trained}
-use Rattle.make.specs.declared.Trained.TheVariants.{Tokens, Refused}
 use Rattle.training.specs.Train.{Work, seeding_work, cache_slots, Seeds, Why, early, later, Gives, Answers, Zeros}
 
 -- ---- the seed list: there is one, or `start` has refused
 module _ (x : start.Lent) where
   not_settings : {r : Refusal} → NotInBounds x.settings x.texts x.specials r → InBounds x.settings x.texts x.specials → ⊥
-  not_settings {r} a b = let e = settings.one_answer x.settings x.texts x.specials (BadSettings r) Fine a b in let z : ◌≡◌ {A = ℕ} 0 1 = cc in lt_irrefl 0 (omega arith)
+  not_settings {r} a b = let e = settings.one_answer x.settings x.texts x.specials (Err r) (Ok tt) a b in let z : ◌≡◌ {A = ℕ} 0 1 = cc in lt_irrefl 0 (omega arith)
 
   not_words : {r : Refusal} → NotInOrder x.text x.words x.frequencies r → InOrder x.text x.words x.frequencies → ⊥
-  not_words {r} a b = let e = words.one_answer x.text x.words x.frequencies (BadWords r) WordsFine a b in let z : ◌≡◌ {A = ℕ} 0 1 = cc in lt_irrefl 0 (omega arith)
+  not_words {r} a b = let e = words.one_answer x.text x.words x.frequencies (Err r) (Ok tt) a b in let z : ◌≡◌ {A = ℕ} 0 1 = cc in lt_irrefl 0 (omega arith)
 
   not_bad : {R : Type 0} {r : Refusal} → start.Fit x R → start.Bad x R r → ⊥
   not_bad f (bad_settings a) = not_settings a f.settings_fit
@@ -50,7 +47,7 @@ module _ (x : start.Lent) where
 
     -- what `start` leaves does not matter to why it refuses
     one_start : {r s : Refusal} → start.Why x w r → start.Why x w s → r ≡ s
-    one_start {r} {s} a b = starting.no_second x w nothing nothing (Unstarted r) (Unstarted s) a b
+    one_start {r} {s} a b = starting.no_second x w nothing nothing (Err r) (Err s) a b
       where
         nothing : start.Left
         nothing = record { kept = w.kept; counts = w.counts; pieces = w.pieces; tallies = w.tallies; scores = w.scores }
@@ -127,17 +124,17 @@ module _ (x : start.Lent) (w : Work) (y : Results) where
       (late_for x w.keys w.ends (cache_slots w) y (one_list x (seeding_work w) g.seeds a.seeds) a.late)
 
 -- Of two calls with the same lists lent, both answer the same, a refusal or the tokens, and both leave the same results.
-pub no_second : (x : start.Lent) (w : Work) (y y' y'' : Results) (r s : Trained) → Answers x w y y' r → Answers x w y y'' s → (r ≡ s) × (y' ≡ y'')
-no_second x w y y' y'' (Tokens count required over) (Tokens count' required' over') g h =
+pub no_second : (x : start.Lent) (w : Work) (y y' y'' : Results) (r s : Result Trained Refusal) → Answers x w y y' r → Answers x w y y'' s → (r ≡ s) × (y' ≡ y'')
+no_second x w y y' y'' (Ok t) (Ok u) g h =
     let l = one_list x (seeding_work w) g.seeds h.seeds in
     let m = one_made x w.keys w.ends (cache_slots w) y g.made (made_for x w.keys w.ends (cache_slots w) y l h.made) in
     let c = m.0 in
     let n = l.1 in
     let o = m.1 in
-    (λ i. Tokens (c i) (n i) (o i), m.2)
-no_second x w y y' y'' (Tokens count required over) (Refused s) g (q, v) = absurd (never x w y g q)
-no_second x w y y' y'' (Refused r) (Tokens count required over) (p, u) h = absurd (never x w y h p)
-no_second x w y y' y'' (Refused r) (Refused s) (p, u) (q, v) = (ap Refused (one_why x w y p q), one_outcome u v)
+    (λ i. Ok (record { tokens = c i; required = n i; stalled = o i }), m.2)
+no_second x w y y' y'' (Ok t) (Err s) g (q, v) = absurd (never x w y g q)
+no_second x w y y' y'' (Err r) (Ok t) (p, u) h = absurd (never x w y h p)
+no_second x w y y' y'' (Err r) (Err s) (p, u) (q, v) = (ap Err (one_why x w y p q), one_outcome u v)
 
 -- And the work slices are zero.
 pub one_work : {w w' w'' : Work} → Zeros w w' → Zeros w w'' → w' ≡ w''

@@ -1,5 +1,5 @@
 -- What the demands say of training, beyond its contract in crates/training/specs/Train.antt. Definitions only.
-use Rattle.std.specs.Prelude.{◌≡◌, Bool, false, List, ◌++◌, ℕ, ◌+◌, ◌≤◌, ◌<◌, length, drop}
+use Rattle.std.specs.Prelude.{◌≡◌, Bool, false, List, ◌++◌, ℕ, ◌+◌, ◌≤◌, ◌<◌, length, drop, Result, Ok}
 use Rattle.refusal.specs.declared.Refusal.{Refusal}
 use Rattle.refusal.specs.declared.Refusal.TheVariants.{BadFrame, BadSetting, BadWord, RepeatedWord, TooHeavy, EmptyCorpus, NoRoom, VocabTooSmall, BadLattice, BadScore, NoPath, PathBroken, BadRemap, BadPiece, RepeatedPiece}
 use Rattle.spans.specs.Spans.{many}
@@ -13,6 +13,7 @@ use Rattle.copied.specs.Put.{spans_from}
 use Rattle.model.specs.Model.{Model, Task, remap_to, keep_next, stops, stalled}
 use Rattle.model.specs.Loop.{next}
 use Rattle.begun.specs.First.{task_of}
+use Rattle.make.specs.declared.Trained.{Trained}
 use Rattle.make.specs.Make.{Results, final, token_bytes, token_scores}
 
 -- ---- demand 1: the rows of the table that training gives, with the places they have
@@ -37,6 +38,10 @@ InTable x (PathBroken position) = ⊥
 InTable x (BadRemap entry) = ⊥
 InTable x (BadPiece id) = ⊥
 InTable x (RepeatedPiece id) = ⊥
+
+-- ---- an accepted call's answer: so many tokens, so many required pieces, and whether it stalled
+abbrev pub given : ℕ → ℕ → Bool → Result Trained Refusal
+given tokens required stalled = Ok (record { tokens = tokens; required = required; stalled = stalled })
 
 -- ---- demand 2: the tokens are those that seeding, the rounds and the last EM give, with each count taken from its list
 pub record TheTokens (x : start.Lent) (y y' : Results) (count required : ℕ) (stall : Bool) : Type 0 where

@@ -1,10 +1,10 @@
 -- One turn of each loop, and what the choices of a pass come to. Assumes nothing.
-use Rattle.std.proofs.Common.{◌≡◌, ℕ, zero, suc, ◌+◌, ◌<◌, ◌≤◌, Bool, true, false, cond, not, ◌||◌, eqb, List, [], ◌∷◌, ◌++◌, map, length, get_or, take, drop, set, sym, refl, ap, ◌∙◌, subst, ap₂, append-nil, add-one, arith, length-append, length-drop, length-set, drop_of_length-le, length-take-le, take_all, take-suc, take_at, ne_eqb}
+use Rattle.std.proofs.Common.{◌≡◌, ℕ, zero, suc, ◌+◌, ◌<◌, ◌≤◌, Bool, true, false, cond, not, ◌||◌, eqb, List, [], ◌∷◌, ◌++◌, map, length, get_or, take, drop, set, sym, refl, ap, ◌∙◌, subst, ap₂, add-one, arith, length-append, length-drop, length-take-le, take-suc, take_at, ne_eqb}
 use mathlib.Core.List.{map-append}
 use native.Mathlib.Decide.{dec_lt}
 use lib.ListN.{length-map}
-use lib.Ieee.{Float, nan, lt, le}
-use Rattle.math.specs.Steps.{◌⊕◌, ◌⊘◌, ln_steps, zero as nought}
+use lib.Ieee.{Float, nan, le}
+use Rattle.math.specs.Steps.{◌⊕◌, zero as nought}
 use Rattle.laws.specs.Tests.{Says}
 use Rattle.formed.specs.Word.{WordFormed}
 use Rattle.connected.specs.Cut.{Connected}
@@ -16,40 +16,23 @@ use Rattle.expectations.specs.Sums.{expected_shares}
 use Rattle.expectations.proofs.InTurn.{over_none, over_more}
 use Rattle.expectations.proofs.Filled.{Filled, filled_more}
 use Rattle.em.specs.Reach.{connects}
-use Rattle.em.specs.Em.{weight_of, add_edge, add_edges, skipped, add_word, total_of, floor, new_score, rescored}
-use Rattle.em.specs.Steps.{Counted, AllCounted}
+use Rattle.em.specs.Em.{weight_of, add_edge, add_edges, skipped, add_word, total_of, new_score, rescored}
+use Rattle.em.specs.Steps.{AllCounted}
 use Rattle.em.proofs.Reaching.{connects_says}
 
 -- ---- a word's edges
 pub record Adding (ids : List ℕ) (emitted : List Float) (weight : Float) (before : List Float) (k : ℕ) (expected : List Float) : Type 0 where
-  pub near : k ≤ length ids
   pub long : length expected ≡ length before
   pub counted : AllCounted ids (length emitted) (length before)
   pub is : expected ≡ over (add_edge ids emitted weight) before 0 k
 
 module _ {ids : List ℕ} {emitted : List Float} {weight : Float} {before : List Float} where
   pub adding_none : AllCounted ids (length emitted) (length before) → Adding ids emitted weight before 0 before
-  adding_none a = record { near = omega arith; long = refl; counted = a; is = sym (over_none (add_edge ids emitted weight) before 0) }
+  adding_none a = record { long = refl; counted = a; is = sym (over_none (add_edge ids emitted weight) before 0) }
 
-  pub adding_may : {k : ℕ} {expected : List Float} → k < length ids → Adding ids emitted weight before k expected → Counted ids (length emitted) (length expected) k
-  adding_may {k} l a =
-      let n = a.counted.named k l in
-      let m = a.counted.entries in
-      let e = a.long in
-      record { in_ids = l; in_emitted = omega arith; id_in = omega arith }
-
-  pub adding_more : {k : ℕ} {expected next : List Float} → k < length ids → Adding ids emitted weight before k expected → next ≡ add_edge ids emitted weight expected k → Adding ids emitted weight before (k + 1) next
-  adding_more {k} {expected} l a e =
-      record {
-        near = omega arith;
-        long = ap length e ∙ length-set expected _ _ ∙ a.long;
-        counted = a.counted;
-        is = e ∙ ap (λ (x : List Float). add_edge ids emitted weight x k) a.is ∙ sym (over_more (add_edge ids emitted weight) before 0 k (omega arith));
-      }
-
-  pub adding_all : {k : ℕ} {expected : List Float} → length ids ≤ k → Adding ids emitted weight before k expected → expected ≡ add_edges ids emitted weight before
+  pub adding_all : {k : ℕ} {expected : List Float} → k ≡ length ids → Adding ids emitted weight before k expected → expected ≡ add_edges ids emitted weight before
   unfolding add_edges
-  adding_all {k} l a = let n = a.near in let e : k ≡ length ids = omega arith in a.is ∙ ap (over (add_edge ids emitted weight) before 0) e
+  adding_all e a = a.is ∙ ap (over (add_edge ids emitted weight) before 0) e
 
 -- ---- a word: skipped, or not
 module _ (offsets starts ids : List ℕ) (n : ℕ) (scores : List Float) (frequency : ℕ) (expected : List Float) where
@@ -115,13 +98,6 @@ sum_more expected k e = ap (λ (x : Float). x ⊕ get_or expected k nan) e ∙ s
 pub sum_all : (expected : List Float) (k : ℕ) {sum : Float} → k ≡ length expected → sum ≡ sum_to expected k → sum ≡ total_of expected
 sum_all expected k n e = e ∙ ap (sum_to expected) n
 
--- ---- a new score
-pub new_some : (sum count : Float) {r : Float} → lt nought count ≡ true → r ≡ ln_steps (count ⊘ sum) → r ≡ new_score sum count
-new_some sum count t e = e ∙ sym (ap (λ (b : Bool). cond b (ln_steps (count ⊘ sum)) floor) t)
-
-pub new_none : (sum count : Float) → lt nought count ≡ false → floor ≡ new_score sum count
-new_none sum count t = sym (ap (λ (b : Bool). cond b (ln_steps (count ⊘ sum)) floor) t)
-
 -- ---- new scores, one after the other
 module _ (sum : Float) (expected : List Float) where
   abbrev pub new_to : ℕ → List Float
@@ -141,12 +117,6 @@ module _ (sum : Float) (expected : List Float) where
   rescore_more {scores} {now} k {r} same l f e =
       subst (λ (x : List Float). Filled x scores (k + 1) (set now k r)) (ap (λ (v : Float). new_to k ++ (v ∷ [])) e ∙ new_more k l)
       (filled_more r (length_new k (omega arith)) (omega arith) f)
-
-  pub rescore_all : {scores now : List Float} (k : ℕ) → length expected ≡ length scores → length expected ≤ k → Filled (new_to k) scores k now → now ≡ map (new_score sum) expected
-  rescore_all {scores} k same l f =
-      f.is
-      ∙ ap₂ (λ (x y : List Float). map (new_score sum) x ++ y) (take_all k expected l) (drop_of_length-le scores {i = k} (omega arith))
-      ∙ append-nil (map (new_score sum) expected)
 
 -- ---- the scores, by the total
 module _ (scores expected : List Float) where

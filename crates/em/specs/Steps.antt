@@ -23,13 +23,6 @@ pub record Given (offsets starts ids spans frequencies : List ℕ) (words pieces
   pub frequent : words ≤ length frequencies
 
 -- ---- the steps
--- so many work slots
-pub record Work (alpha beta emitted reach : ℕ) : Type 0 where
-  pub alphas : 256 ≤ alpha
-  pub betas : 256 ≤ beta
-  pub entries : 8160 ≤ emitted
-  pub marks : 256 ≤ reach
-
 -- an edge has an entry, and its piece a count
 pub record Counted (ids : List ℕ) (emitted pieces k : ℕ) : Type 0 where
   pub in_ids : k < length ids

@@ -3,23 +3,32 @@
 // "Words with n = 0 or no connection are skipped. Total ≤ 0 changes nothing. A piece with no expectation gets -1021. Underflow
 // of count/total gives minus infinity." Every word adds its edges' shares, times its frequency, to what its pieces are expected;
 // each score then is the logarithm of its piece's part of the total. The entry of an edge that emits nothing is +0, and adding it
-// changes no bit. The work slices of a word's sums are local arrays, made once a pass: a word has at most 255 characters and 32
+// changes no bit. The work slices of a word's sums are arrays, made once a pass: a word has at most 255 characters and 32
 // edges to each.
 #![tactic(auto)]
 
-ghost use Rattle.std.specs.Prelude.{◌≡◌, ◌≤◌, max, List, map, length, slice_index};
+ghost use Rattle.std.specs.Prelude.{◌≡◌, ◌≤◌, List, map, length, slice_index};
 ghost use Rattle.lattice.specs.Lattice.{Edge};
 ghost use Rattle.formed.specs.Word.{WordFormed};
 ghost use Rattle.cached.specs.Cached.{span_at};
 ghost use Rattle.cached.specs.Held.{Held};
 ghost use Rattle.em.specs.Em as Em;
-ghost use Rattle.em.specs.Steps.{Given, Work, Counted, AllCounted, WordAt, add_span};
+ghost use Rattle.em.specs.Steps.{Given, Counted, AllCounted, WordAt, add_span};
 
+use cached::span_at;
 use connected::is_connected_core;
 use expectations::expectations_core;
-use formed::read;
+use formed::{Lattice, read};
 use math::ln;
-use slots::clear_floats;
+
+// The work slices of a word's sums and of its marks.
+#[derive(Drop)]
+struct Work {
+    alpha: [f64; 256],
+    beta: [f64; 256],
+    emitted: [f64; 8160],
+    reach: [u32; 256],
+}
 
 // Adds edge k's share, so many times, to what its piece is expected.
 fn add_edge(ids: &[u32], emitted: &[f64], expected: &mut [f64], weight: f64, k: usize)
@@ -27,7 +36,7 @@ fn add_edge(ids: &[u32], emitted: &[f64], expected: &mut [f64], weight: f64, k: 
     ensures { expected.new ≡ Em.add_edge ids.now emitted.now weight expected.old k }
 {
     let id = read(ids, k);
-    expected[id] = expected[id] + emitted[k] * weight;
+    expected[id] += emitted[k] * weight;
 }
 
 // The same for all edges of a word, in order.
@@ -35,120 +44,81 @@ fn add_edges(ids: &[u32], emitted: &[f64], expected: &mut [f64], weight: f64)
     requires { AllCounted ids.now (length emitted.now) (length expected.old) }
     ensures { expected.new ≡ Em.add_edges ids.now emitted.now weight expected.old }
 {
-    let mut k = 0;
-    while k < ids.len() {
+    for k in 0..ids.len() {
         add_edge(ids, emitted, expected, weight, k);
-        k += 1;
     }
 }
 
-// Adds a word by its lattice's own slices. It is skipped where it has no character or no cut.
+// Adds a word by its lattice. It is skipped where it has no character or no cut.
 fn add_lattice(
-    offsets: &[u32],
-    starts: &[u32],
-    ids: &[u32],
+    lattice: &Lattice,
     scores: &[f64],
     expected: &mut [f64],
-    alpha: &mut [f64],
-    beta: &mut [f64],
-    emitted: &mut [f64],
-    reach: &mut [u32],
+    work: &mut Work,
     frequency: u64,
-    n: usize,
 )
-    requires word_formed { WordFormed offsets.now starts.now ids.now (length scores.now) n × (n ≤ 255) × (length starts.now ≤ 8160) }
-    requires work { Work (length alpha.old) (length beta.old) (length emitted.old) (length reach.old) × (length expected.old ≡ length scores.now) }
-    ensures { expected.new ≡ Em.add_word offsets.now starts.now ids.now n scores.now frequency expected.old }
+    requires word_formed { WordFormed lattice.now.offsets.now lattice.now.starts.now lattice.now.ids.now (length scores.now) lattice.now.n × (lattice.now.n ≤ 255) × (length lattice.now.starts.now ≤ 8160) }
+    requires as_many { length expected.old ≡ length scores.now }
+    ensures { expected.new ≡ Em.add_word lattice.now.offsets.now lattice.now.starts.now lattice.now.ids.now lattice.now.n scores.now frequency expected.old }
 {
-    if n == 0 {
+    if lattice.n == 0 || !is_connected_core(lattice, &mut work.reach) {
         return;
     }
-    if !is_connected_core(offsets, starts, reach, n) {
-        return;
-    }
-    expectations_core(offsets, starts, ids, scores, alpha, beta, emitted, n);
-    let weight = std::num::nearest_u64_to_f64(frequency);
-    let edges = starts.len();
-    add_edges(ids, &emitted[..edges], expected, weight);
-}
-
-// Adds a word of the cache: its lattice's slices are cut out at its span.
-fn add_word(
-    offsets: &[u32],
-    starts: &[u32],
-    ids: &[u32],
-    spans: &[u32],
-    frequencies: &[u64],
-    scores: &[f64],
-    expected: &mut [f64],
-    alpha: &mut [f64],
-    beta: &mut [f64],
-    emitted: &mut [f64],
-    reach: &mut [u32],
-    word: usize,
-)
-    requires word_at { WordAt offsets.now starts.now ids.now spans.now frequencies.now (length scores.now) word }
-    requires work { Work (length alpha.old) (length beta.old) (length emitted.old) (length reach.old) × (length expected.old ≡ length scores.now) }
-    ensures { expected.new ≡ add_span offsets.now starts.now ids.now (span_at spans.now word) scores.now (slice_index frequencies.now word) expected.old }
-{
-    let k = 4 * word;
-    let from = read(spans, k);
-    let to = read(spans, k + 1);
-    let at = read(spans, k + 2);
-    let n = read(spans, k + 3);
-    let past = at + n + 2;
-    add_lattice(
-        &offsets[at..past],
-        &starts[from..to],
-        &ids[from..to],
+    expectations_core(
+        lattice,
         scores,
+        &mut work.alpha,
+        &mut work.beta,
+        &mut work.emitted,
+    );
+    let weight = std::num::nearest_u64_to_f64(frequency);
+    add_edges(
+        lattice.ids,
+        &work.emitted[..lattice.starts.len()],
         expected,
-        alpha,
-        beta,
-        emitted,
-        reach,
-        frequencies[word],
-        n,
+        weight,
     );
 }
 
-// How often each piece is expected over all words, in order.
-fn expect(
-    offsets: &[u32],
-    starts: &[u32],
-    ids: &[u32],
-    spans: &[u32],
-    words: usize,
-    frequencies: &[u64],
-    scores: &[f64],
-    expected: &mut [f64],
-    alpha: &mut [f64],
-    beta: &mut [f64],
-    emitted: &mut [f64],
-    reach: &mut [u32],
-)
-    requires given { Given offsets.now starts.now ids.now spans.now frequencies.now words (length scores.now) }
-    requires work { Work (length alpha.old) (length beta.old) (length emitted.old) (length reach.old) × (length expected.old ≡ length scores.now) }
-    ensures { (lattices : List (List (List Edge))) → Held starts.now ids.now offsets.now spans.now (length scores.now) words lattices → expected.new ≡ Em.expected_of lattices frequencies.now scores.now }
-{
-    clear_floats(expected);
-    let mut word = 0;
-    while word < words {
-        add_word(
-            offsets,
-            starts,
-            ids,
-            spans,
-            frequencies,
-            scores,
+// What a cache holds of its words, and the scores of pieces. The same as in `uses`; what is added up is each crate's own.
+#[derive(Clone, Copy)]
+struct Lent<'a> {
+    offsets: &'a [u32],
+    starts: &'a [u32],
+    ids: &'a [u32],
+    spans: &'a [u32],
+    frequencies: &'a [u64],
+    scores: &'a [f64],
+}
+
+impl Lent<'_> {
+    // Adds a word of the cache: its lattice's slices are cut out at its span.
+    fn add_word(&self, expected: &mut [f64], work: &mut Work, word: usize)
+        requires word_at { WordAt self.now.offsets.now self.now.starts.now self.now.ids.now self.now.spans.now self.now.frequencies.now (length self.now.scores.now) word }
+        requires as_many { length expected.old ≡ length self.now.scores.now }
+        ensures { expected.new ≡ add_span self.now.offsets.now self.now.starts.now self.now.ids.now (span_at self.now.spans.now word) self.now.scores.now (slice_index self.now.frequencies.now word) expected.old }
+    {
+        let span = span_at(self.spans, word);
+        let lattice = Lattice::at(self.offsets, self.starts, self.ids, span);
+        add_lattice(
+            &lattice,
+            self.scores,
             expected,
-            alpha,
-            beta,
-            emitted,
-            reach,
-            word,
+            work,
+            self.frequencies[word],
         );
-        word += 1;
+    }
+
+    // How often each piece is expected over all words, in order.
+    fn expect(&self, words: usize, expected: &mut [f64], work: &mut Work)
+        requires given { Given self.now.offsets.now self.now.starts.now self.now.ids.now self.now.spans.now self.now.frequencies.now words (length self.now.scores.now) }
+        requires as_many { length expected.old ≡ length self.now.scores.now }
+        ensures { (lattices : List (List (List Edge))) → Held self.now.starts.now self.now.ids.now self.now.offsets.now self.now.spans.now (length self.now.scores.now) words lattices → expected.new ≡ Em.expected_of lattices self.now.frequencies.now self.now.scores.now }
+    {
+        expected.fill(0.0);
+        for word in 0..words {
+            self.add_word(expected, work, word);
+        }
     }
 }
 
@@ -157,10 +127,8 @@ fn total(expected: &[f64]) -> f64
     ensures { result ≡ Em.total_of expected.now }
 {
     let mut sum = 0.0;
-    let mut piece = 0;
-    while piece < expected.len() {
-        sum = sum + expected[piece];
-        piece += 1;
+    for count in expected {
+        sum += *count;
     }
     sum
 }
@@ -182,10 +150,8 @@ fn rescore(scores: &mut [f64], expected: &[f64], sum: f64)
     requires { length expected.now ≡ length scores.old }
     ensures { scores.new ≡ map (Em.new_score sum) expected.now }
 {
-    let mut piece = 0;
-    while piece < expected.len() {
-        scores[piece] = new_score(sum, expected[piece]);
-        piece += 1;
+    for (piece, count) in expected.iter().enumerate() {
+        scores[piece] = new_score(sum, *count);
     }
 }
 
@@ -216,32 +182,22 @@ pub fn em(
     requires { Given offsets.now starts.now ids.now spans.now frequencies.now words (length scores.old) × (length expected.old ≡ length scores.old) }
     ensures { (lattices : List (List (List Edge))) → Held starts.now ids.now offsets.now spans.now (length scores.old) words lattices → scores.new ≡ Em.em lattices frequencies.now scores.old }
 {
-    let mut alpha = [0.0f64; 256];
-    let mut beta = [0.0f64; 256];
-    let mut emitted = [0.0f64; 8160];
-    let mut reach = [0u32; 256];
-    expect(
+    let mut work = Work {
+        alpha: [0.0; 256],
+        beta: [0.0; 256],
+        emitted: [0.0; 8160],
+        reach: [0; 256],
+    };
+    let lent = Lent {
         offsets,
         starts,
         ids,
         spans,
-        words,
         frequencies,
         scores,
-        expected,
-        &mut alpha,
-        &mut beta,
-        &mut emitted,
-        &mut reach,
-    );
+    };
+    lent.expect(words, expected, &mut work);
     maximize(scores, expected);
-}
-
-// How many passes so many iterations ask for.
-fn passes(iterations: usize) -> usize
-    ensures { result ≡ max 1 iterations }
-{
-    if iterations < 1 { 1 } else { iterations }
 }
 
 // "EM runs max(1, iterations) a round": so many passes, one after the other.
@@ -259,9 +215,7 @@ pub fn em_many(
     requires { Given offsets.now starts.now ids.now spans.now frequencies.now words (length scores.old) × (length expected.old ≡ length scores.old) }
     ensures { (lattices : List (List (List Edge))) → Held starts.now ids.now offsets.now spans.now (length scores.old) words lattices → scores.new ≡ Em.em_many lattices frequencies.now iterations scores.old }
 {
-    let last = passes(iterations);
-    let mut done = 0;
-    while done < last {
+    for _pass in 0..iterations.max(1) {
         em(
             offsets,
             starts,
@@ -272,6 +226,5 @@ pub fn em_many(
             scores,
             expected,
         );
-        done += 1;
     }
 }

@@ -1,17 +1,13 @@
 -- One turn of each loop over ends. Assumes nothing.
 use mathlib.Core.Path.{◌≡◌, refl, sym, ap, ap₂, ◌∙◌, subst}
-use mathlib.Core.Bool.{true, cond}
 use mathlib.Core.List.{List, [], ◌∷◌, ◌++◌}
 use Prim.Native.Nat.{ℕ, zero, suc, ◌+◌, ◌-◌, ◌≤◌, ◌<◌}
 use native.Mathlib.Numerals.{add-one}
-use native.Mathlib.Decide.{dec_lt}
 use native.Mathlib.Omega.{arith}
-use borrow.Author.Tests.{eq-eqb, ne_eqb}
-use lib.Dec.{eqb}
-use lib.ListN.{length, get_or, take, drop, set, replicate, length-append, length-drop, length-replicate, get_or-replicate, get_or-append}
-use lib.Seq.{drop-append-add, drop-drop, get_or-set_same, get_or-set_other}
-use lib.Ieee.{Float, nan, inf}
-use Rattle.math.specs.Steps.{◌⊕◌, ◌⊖◌, zero as nought}
+use lib.ListN.{length, get_or, take, drop, set, length-append, length-drop}
+use lib.Seq.{drop-append-add, drop-drop}
+use lib.Ieee.{Float, nan}
+use Rattle.math.specs.Steps.{◌⊕◌, ◌⊖◌}
 use Rattle.formed.specs.Word.{WordFormed}
 use Rattle.connected.specs.Word.{Starting, Naming, low, high}
 use Rattle.connected.proofs.Word.{first, starting, naming}
@@ -99,27 +95,6 @@ module _ (offsets starts ids : List ℕ) (scores : List Float) where
       rw (alphas_more q, ← is) (filled_more r (length_alphas q) h filled)
 
   -- ---- the sums to position n
-  pub holds_none : (n : ℕ) (base l : List Float) {v : Float} → n < length l → v ≡ inf true → l ≡ replicate n v ++ drop n base → Holds offsets starts ids scores n 0 (set l n nought)
-  holds_none n base l {v} h i e = record { each = at }
-    where
-      differ : (p : ℕ) → p < n → p ≡ n → ⊥
-      differ p b e = omega arith
-
-      same : (p : ℕ) → p ≤ n → ¬ (p < n) → n ≡ p
-      same p a b = omega arith
-
-      at : (p : ℕ) → p ≤ n → get_or (set l n nought) p nan ≡ cond (eqb p n) nought (inf true)
-      at p a = elim (dec_lt p n) [
-        | yes b ↦
-            get_or-set_other l n p nought nan (differ p b)
-            ∙ ap (λ (x : List Float). get_or x p nan) e
-            ∙ get_or-append (replicate n v) (drop n base) nan p (rw length-replicate b)
-            ∙ get_or-replicate n p v nan b
-            ∙ i
-            ∙ ap (λ t. cond t nought (inf true)) (sym (ne_eqb p n (differ p b)))
-        | no b ↦ subst (λ (q : ℕ). get_or (set l n nought) q nan ≡ cond (eqb q n) nought (inf true)) (same p a b) (get_or-set_same l n nought nan h ∙ ap (λ t. cond t nought (inf true)) (sym (eq-eqb n n refl)))
-      ]
-
   pub holds_more : (n d : ℕ) (b : List Float) {b' : List Float} {end from to : ℕ} {onward : Float} → n < length b → end ≡ n - d → onward ≡ get_or b end nan → from ≡ low offsets end → to ≡ high offsets end
       → Holds offsets starts ids scores n d b → Added starts ids scores onward from to b b' → Holds offsets starts ids scores n (d + 1) b'
   holds_more n d b {b'} {end} {from} {to} {onward} h e o f t holds added =

@@ -4,7 +4,7 @@ use mathlib.Core.List.{List, [], ◌∷◌, ◌++◌, append_assoc}
 use Prim.Native.Nat.{ℕ, suc, ◌+◌, ◌<◌}
 use native.Mathlib.Nat.{lt_irrefl}
 use native.Mathlib.Numerals.{add-one}
-use lib.ListN.{length, get_or, take, drop, set, replicate, length-set, length-replicate, replicate-append-replicate}
+use lib.ListN.{length, get_or, take, drop, set, length-set}
 use lib.Seq.{drop-cons, set_at, take_at}
 use lib.Ieee.{Float}
 
@@ -33,7 +33,3 @@ filled_one (x ∷ l) v h = record { is = refl; long = refl }
 
 pub filled_part : {front base l : List Float} {k : ℕ} → length front ≡ k → Filled front base k l → take k l ≡ front
 filled_part {front} {base} {l} {k} e f = ap (take k) f.is ∙ take_at front (drop k base) k e
-
--- filled with one value
-pub fill_more : {base l : List Float} {k : ℕ} (v : Float) → k < length base → Filled (replicate k v) base k l → Filled (replicate (k + 1) v) base (k + 1) (set l k v)
-fill_more {k = k} v h f = rw (← replicate-append-replicate k 1 v) (filled_more v (length-replicate k v) h f)

@@ -1,12 +1,11 @@
 -- Edges one after the other: none at first, then one more at each turn. Assumes nothing.
 use mathlib.Core.Path.{◌≡◌, ap, ◌∙◌, refl}
-use mathlib.Core.List.{List, [], ◌∷◌, ◌++◌}
-use Prim.Native.Nat.{ℕ, zero, suc, ◌+◌, ◌-◌, ◌≤◌, ◌<◌}
+use mathlib.Core.List.{[], ◌∷◌, ◌++◌}
+use Prim.Native.Nat.{ℕ, zero, suc, ◌+◌, ◌-◌, ◌≤◌}
 use native.Mathlib.Omega.{arith}
 use lib.ListN.{length, length-append}
 use lib.Ieee.{Float}
-use Rattle.connected.specs.Word.{Starting, Naming}
-use Rattle.expectations.specs.Edges.{in_turn, over, Edge}
+use Rattle.expectations.specs.Edges.{in_turn, over}
 
 pub over_none : {A : Type 0} (step : A → ℕ → A) (a : A) (low : ℕ) → over step a low low ≡ a
 over_none step a low = let z : low - low ≡ 0 = omega arith in ap (in_turn step a low) z
@@ -21,10 +20,3 @@ over_more step a low k l =
 pub length_told : (f : ℕ → Float) (k n : ℕ) → length (in_turn (λ told j. told ++ (f j ∷ [])) [] k n) ≡ n
 length_told f k zero = refl
 length_told f k (suc n) = let a = length-append (in_turn (λ told j. told ++ (f j ∷ [])) [] k n) (f (k + n) ∷ []) in let b = length_told f k n in omega arith
-
--- one edge of a range
-pub edge : {starts ids : List ℕ} {pieces m low high : ℕ} (k : ℕ) → Starting starts m low high × Naming ids pieces low high → low ≤ k → k < high → Edge starts ids pieces m k
-edge k r a b =
-    let l = r.0.edges_in in
-    let i = r.1.ids_in in
-    record { in_starts = omega arith; in_ids = omega arith; start_in = r.0.before k a b; id_in = r.1.named k a b }

@@ -1,35 +1,25 @@
 -- One turn of each loop over edges. Assumes nothing.
-use mathlib.Core.Path.{◌≡◌, refl, sym, ap, ap₂, ◌∙◌, subst}
+use mathlib.Core.Path.{◌≡◌, refl, sym, ap, ◌∙◌, subst}
 use mathlib.Core.Bool.{Bool, true, false, cond}
-use mathlib.Core.List.{List, [], ◌∷◌, ◌++◌, append_assoc, append-nil}
+use mathlib.Core.List.{List, [], ◌∷◌, ◌++◌, append_assoc}
 use Prim.Native.Nat.{ℕ, ◌+◌, ◌-◌, ◌≤◌, ◌<◌}
 use native.Mathlib.Omega.{arith}
 use borrow.Author.Tests.{eqb-true, eqb-false}
 use lib.Dec.{eqb}
-use lib.ListN.{length, get_or, take, drop, set, length-append, length-set, take-append-drop}
+use lib.ListN.{length, get_or, take, set, length-append}
 use lib.Seq.{length-take-le, get_or-set_same, get_or-set_other}
-use lib.Ieee.{Float, nan, inf}
+use lib.Ieee.{Float, nan}
 use Rattle.math.specs.Steps.{◌⊕◌, ◌⊖◌}
 use Rattle.expectations.specs.LogAdd.{log_add}
-use Rattle.expectations.specs.Sums.{share, score, until, forward_sum, shares, Added}
+use Rattle.expectations.specs.Sums.{share, score, until, shares, Added}
 use Rattle.expectations.proofs.Filled.{Filled, filled_more}
-use Rattle.expectations.proofs.InTurn.{over_none, over_more, length_told}
+use Rattle.expectations.proofs.InTurn.{over_more, length_told}
 
 module _ (starts ids : List ℕ) (scores : List Float) where
-  -- ---- forward
-  pub forward_none : (h : List Float) (low : ℕ) {sum : Float} → sum ≡ inf true → sum ≡ forward_sum starts ids scores h low low
-  forward_none h low e = e ∙ sym (over_none (λ sum k. log_add sum (until starts ids scores h k)) (inf true) low)
-
-  pub forward_more : (h : List Float) (low k : ℕ) {sum way next : Float} → low ≤ k → sum ≡ forward_sum starts ids scores h low k → way ≡ until starts ids scores h k → next ≡ log_add sum way → next ≡ forward_sum starts ids scores h low (k + 1)
-  forward_more h low k l s w e = e ∙ ap₂ log_add s w ∙ sym (over_more (λ sum k. log_add sum (until starts ids scores h k)) (inf true) low k l)
-
   -- ---- backward
   module _ (onward : Float) (low : ℕ) where
     abbrev step : ℕ → Float → ℕ → Float
     step p sum k = cond (eqb (get_or starts k 0) p) (log_add sum (score starts ids scores k ⊕ onward)) sum
-
-    pub added_none : (b : List Float) → Added starts ids scores onward low low b b
-    added_none b = record { each = λ p h. sym (over_none (step p) (get_or b p nan) low) }
 
     chosen : (b : List Float) (p k : ℕ) (v : Float) → get_or starts k 0 < length b → (t : Bool) → eqb (get_or starts k 0) p ≡ t
         → v ≡ log_add (get_or b (get_or starts k 0) nan) (score starts ids scores k ⊕ onward)
@@ -40,20 +30,18 @@ module _ (starts ids : List ℕ) (scores : List Float) where
         (get_or-set_same b (get_or starts k 0) v nan h ∙ q)
     chosen b p k v h false e q = get_or-set_other b (get_or starts k 0) p v nan (λ (s : p ≡ get_or starts k 0). eqb-false (get_or starts k 0) p e (sym s))
 
-    pub added_more : (b₀ b : List Float) {b' : List Float} (k : ℕ) → low ≤ k → get_or starts k 0 < length b → length b ≡ length b₀
+    pub added_more : (b₀ b : List Float) {b' : List Float} (k : ℕ) → low ≤ k → get_or starts k 0 < length b
         → Added starts ids scores onward low k b₀ b
         → b' ≡ set b (get_or starts k 0) (log_add (get_or b (get_or starts k 0) nan) (score starts ids scores k ⊕ onward))
-        → (length b' ≡ length b₀) × Added starts ids scores onward low (k + 1) b₀ b'
-    added_more b₀ b k l h m f e = (
-      ap length e ∙ length-set b _ _ ∙ m,
-      record {
-        each = λ p g.
-            ap (λ (x : List Float). get_or x p nan) e
-            ∙ chosen b p k _ h (eqb (get_or starts k 0) p) refl refl
-            ∙ ap (λ (sum : Float). step p sum k) (f.each p g)
-            ∙ sym (over_more (step p) (get_or b₀ p nan) low k l);
-      },
-    )
+        → Added starts ids scores onward low (k + 1) b₀ b'
+    added_more b₀ b k l h f e =
+        record {
+          each = λ p g.
+              ap (λ (x : List Float). get_or x p nan) e
+              ∙ chosen b p k _ h (eqb (get_or starts k 0) p) refl refl
+              ∙ ap (λ (sum : Float). step p sum k) (f.each p g)
+              ∙ sym (over_more (step p) (get_or b₀ p nan) low k l);
+        }
 
   -- ---- shares
   module _ (h : List Float) (onward z : Float) (low : ℕ) where
@@ -65,13 +53,6 @@ module _ (starts ids : List ℕ) (scores : List Float) where
 
     abbrev tell : List Float → ℕ → List Float
     tell told k = told ++ (one k ∷ [])
-
-    pub shares_none : (base : List Float) → Filled (front base low) base low base
-    shares_none base =
-        record {
-          is = sym (take-append-drop low base) ∙ ap (λ (x : List Float). x ++ drop low base) (sym (append-nil (take low base)) ∙ ap (λ (x : List Float). take low base ++ x) (sym (over_none tell [] low)));
-          long = refl;
-        }
 
     length_front : (base : List Float) (k : ℕ) → low ≤ k → k ≤ length base → length (front base k) ≡ k
     length_front base k l g =

@@ -15,7 +15,7 @@ ghost use Rattle.expectations.specs.Edges.{Edge};
 ghost use Rattle.expectations.specs.Sums as Sums;
 
 use floats::{is_finite, lowest};
-use formed::read;
+use formed::{Lattice, read};
 use math::{exp, ln_1p};
 
 // The greater of two, and what the smaller adds to it.
@@ -30,139 +30,94 @@ fn above(hi: f64, lo: f64) -> f64
 pub fn log_add(a: f64, b: f64) -> f64
     ensures { result ≡ log_add a b }
 {
-    let absent = lowest();
-    if a == absent {
-        return b;
+    if a == lowest() {
+        b
+    } else if b == lowest() {
+        a
+    } else if a > b {
+        above(a, b)
+    } else {
+        above(b, a)
     }
-    if b == absent {
-        return a;
-    }
-    if a > b { above(a, b) } else { above(b, a) }
 }
 
 // The way from position 0 over edge k.
-fn until(starts: &[u32], ids: &[u32], scores: &[f64], alpha: &[f64], k: usize) -> f64
-    requires { Edge starts.now ids.now (length scores.now) (length alpha.now) k }
-    ensures { result ≡ Sums.until starts.now ids.now scores.now alpha.now k }
+fn until(lattice: &Lattice, scores: &[f64], alpha: &[f64], k: usize) -> f64
+    requires { Edge lattice.now.starts.now lattice.now.ids.now (length scores.now) (length alpha.now) k }
+    ensures { result ≡ Sums.until lattice.now.starts.now lattice.now.ids.now scores.now alpha.now k }
 {
-    alpha[read(starts, k)] + scores[read(ids, k)]
+    alpha[read(lattice.starts, k)] + scores[read(lattice.ids, k)]
 }
 
 // The sum over the edges from `low` up to, not with, `high`, which end at one position. `alpha` holds the sums at the
 // positions before it.
-fn forward_end(
-    starts: &[u32],
-    ids: &[u32],
-    scores: &[f64],
-    alpha: &[f64],
-    low: usize,
-    high: usize,
-) -> f64
-    requires { Starting starts.now (length alpha.now) low high × Naming ids.now (length scores.now) low high }
-    ensures { result ≡ Sums.forward_sum starts.now ids.now scores.now alpha.now low high }
+fn forward_end(lattice: &Lattice, scores: &[f64], alpha: &[f64], low: usize, high: usize) -> f64
+    requires { Starting lattice.now.starts.now (length alpha.now) low high × Naming lattice.now.ids.now (length scores.now) low high }
+    ensures { result ≡ Sums.forward_sum lattice.now.starts.now lattice.now.ids.now scores.now alpha.now low high }
 {
     let mut sum = lowest();
-    let mut k = low;
-    while k < high {
-        sum = log_add(sum, until(starts, ids, scores, alpha, k));
-        k += 1;
+    for k in low..high {
+        sum = log_add(sum, until(lattice, scores, alpha, k));
     }
     sum
 }
 
 // The sums over the chains of edges from position 0 to each position, ends rising.
-fn forward(
-    offsets: &[u32],
-    starts: &[u32],
-    ids: &[u32],
-    scores: &[f64],
-    alpha: &mut [f64],
-    n: usize,
-)
-    requires { WordFormed offsets.now starts.now ids.now (length scores.now) n × (n < length alpha.old) }
-    ensures { alpha.new ≡ Sums.alphas offsets.now starts.now ids.now scores.now n ++ drop (n + 1) alpha.old }
+fn forward(lattice: &Lattice, scores: &[f64], alpha: &mut [f64])
+    requires { WordFormed lattice.now.offsets.now lattice.now.starts.now lattice.now.ids.now (length scores.now) lattice.now.n × (lattice.now.n < length alpha.old) }
+    ensures { alpha.new ≡ Sums.alphas lattice.now.offsets.now lattice.now.starts.now lattice.now.ids.now scores.now lattice.now.n ++ drop (lattice.now.n + 1) alpha.old }
 {
     alpha[0] = 0.0;
-    let mut q = 0;
-    while q < n {
+    // Counted from 0, as the definition counts the sums that there are.
+    for q in 0..lattice.n {
         let end = q + 1;
-        let low = read(offsets, end);
-        let high = read(offsets, end + 1);
-        alpha[end] = forward_end(starts, ids, scores, &alpha[..end], low, high);
-        q = end;
+        let low = lattice.low(end);
+        let high = lattice.high(end);
+        alpha[end] = forward_end(lattice, scores, &alpha[..end], low, high);
     }
 }
 
 // Adds the way over edge k, onward from its end, to the sum at its start.
-fn backward_edge(
-    starts: &[u32],
-    ids: &[u32],
-    scores: &[f64],
-    beta: &mut [f64],
-    onward: f64,
-    k: usize,
-)
-    requires { Edge starts.now ids.now (length scores.now) (length beta.old) k }
-    ensures { beta.new ≡ set beta.old (get_or starts.now k 0) (log_add (get_or beta.old (get_or starts.now k 0) nan) (Sums.score starts.now ids.now scores.now k ⊕ onward)) }
+fn backward_edge(lattice: &Lattice, scores: &[f64], beta: &mut [f64], onward: f64, k: usize)
+    requires { Edge lattice.now.starts.now lattice.now.ids.now (length scores.now) (length beta.old) k }
+    ensures { beta.new ≡ set beta.old (get_or lattice.now.starts.now k 0) (log_add (get_or beta.old (get_or lattice.now.starts.now k 0) nan) (Sums.score lattice.now.starts.now lattice.now.ids.now scores.now k ⊕ onward)) }
 {
-    let start = read(starts, k);
-    beta[start] = log_add(beta[start], scores[read(ids, k)] + onward);
+    let start = read(lattice.starts, k);
+    beta[start] = log_add(beta[start], scores[read(lattice.ids, k)] + onward);
 }
 
 // The same for the edges from `low` up to, not with, `high`, which end at one position.
 fn backward_end(
-    starts: &[u32],
-    ids: &[u32],
+    lattice: &Lattice,
     scores: &[f64],
     beta: &mut [f64],
     onward: f64,
     low: usize,
     high: usize,
 )
-    requires { Starting starts.now (length beta.old) low high × Naming ids.now (length scores.now) low high }
-    ensures { Sums.Added starts.now ids.now scores.now onward low high beta.old beta.new }
+    requires { Starting lattice.now.starts.now (length beta.old) low high × Naming lattice.now.ids.now (length scores.now) low high }
+    ensures { Sums.Added lattice.now.starts.now lattice.now.ids.now scores.now onward low high beta.old beta.new }
 {
-    let mut k = low;
-    while k < high {
-        backward_edge(starts, ids, scores, beta, onward, k);
-        k += 1;
-    }
-}
-
-// Sets the first `count` numbers of a slice.
-fn fill(slice: &mut [f64], value: f64, count: usize)
-    requires { count ≤ length slice.old }
-    ensures { slice.new ≡ replicate count value ++ drop count slice.old }
-{
-    let mut k = 0;
-    while k < count {
-        slice[k] = value;
-        k += 1;
+    for k in low..high {
+        backward_edge(lattice, scores, beta, onward, k);
     }
 }
 
 // The sums over the chains of edges from each position to n, ends falling.
-fn backward(
-    offsets: &[u32],
-    starts: &[u32],
-    ids: &[u32],
-    scores: &[f64],
-    beta: &mut [f64],
-    n: usize,
-)
-    requires { WordFormed offsets.now starts.now ids.now (length scores.now) n × (n < length beta.old) }
-    ensures { Sums.Holds offsets.now starts.now ids.now scores.now n n beta.new }
+fn backward(lattice: &Lattice, scores: &[f64], beta: &mut [f64])
+    requires { WordFormed lattice.now.offsets.now lattice.now.starts.now lattice.now.ids.now (length scores.now) lattice.now.n × (lattice.now.n < length beta.old) }
+    ensures { Sums.Holds lattice.now.offsets.now lattice.now.starts.now lattice.now.ids.now scores.now lattice.now.n lattice.now.n beta.new }
 {
-    fill(beta, lowest(), n);
+    let n = lattice.n;
+    beta[..n].fill(lowest());
     beta[n] = 0.0;
-    let mut done = 0;
-    while done < n {
+    // Ends falling, counted from 0, as the definition counts those that are done.
+    for done in 0..n {
         let end = n - done;
         let onward = beta[end];
-        let low = read(offsets, end);
-        let high = read(offsets, end + 1);
-        backward_end(starts, ids, scores, beta, onward, low, high);
-        done += 1;
+        let low = lattice.low(end);
+        let high = lattice.high(end);
+        backward_end(lattice, scores, beta, onward, low, high);
     }
 }
 
@@ -179,8 +134,7 @@ fn share(marginal: f64) -> f64
 
 // Emits the edges from `low` up to, not with, `high`, which end at one position with the sum `onward` from there.
 fn emit_end(
-    starts: &[u32],
-    ids: &[u32],
+    lattice: &Lattice,
     scores: &[f64],
     alpha: &[f64],
     emitted: &mut [f64],
@@ -189,75 +143,47 @@ fn emit_end(
     low: usize,
     high: usize,
 )
-    requires { Starting starts.now (length alpha.now) low high × Naming ids.now (length scores.now) low high × (high ≤ length emitted.old) }
-    ensures { emitted.new ≡ (take low emitted.old ++ Sums.shares starts.now ids.now scores.now alpha.now onward z low high) ++ drop high emitted.old }
+    requires { Starting lattice.now.starts.now (length alpha.now) low high × Naming lattice.now.ids.now (length scores.now) low high × (high ≤ length emitted.old) }
+    ensures { emitted.new ≡ (take low emitted.old ++ Sums.shares lattice.now.starts.now lattice.now.ids.now scores.now alpha.now onward z low high) ++ drop high emitted.old }
 {
-    let mut k = low;
-    while k < high {
-        emitted[k] = share(until(starts, ids, scores, alpha, k) + onward - z);
-        k += 1;
+    for k in low..high {
+        emitted[k] = share(until(lattice, scores, alpha, k) + onward - z);
     }
 }
 
 // Emits every edge.
-fn emit(
-    offsets: &[u32],
-    starts: &[u32],
-    ids: &[u32],
-    scores: &[f64],
-    alpha: &[f64],
-    beta: &[f64],
-    emitted: &mut [f64],
-    z: f64,
-    n: usize,
-)
-    requires { WordFormed offsets.now starts.now ids.now (length scores.now) n × (n < length alpha.now) × (n < length beta.now) × (length starts.now ≤ length emitted.old) }
-    ensures { emitted.new ≡ Sums.shares_to offsets.now starts.now ids.now scores.now alpha.now (λ p. get_or beta.now p nan) z (n + 1) ++ drop (length starts.now) emitted.old }
+fn emit(lattice: &Lattice, scores: &[f64], alpha: &[f64], beta: &[f64], emitted: &mut [f64], z: f64)
+    requires { WordFormed lattice.now.offsets.now lattice.now.starts.now lattice.now.ids.now (length scores.now) lattice.now.n × (lattice.now.n < length alpha.now) × (lattice.now.n < length beta.now) × (length lattice.now.starts.now ≤ length emitted.old) }
+    ensures { emitted.new ≡ Sums.shares_to lattice.now.offsets.now lattice.now.starts.now lattice.now.ids.now scores.now alpha.now (λ p. get_or beta.now p nan) z (lattice.now.n + 1) ++ drop (length lattice.now.starts.now) emitted.old }
 {
-    let mut end = 0;
-    while end <= n {
+    for end in 0..lattice.n + 1 {
         let onward = beta[end];
-        let low = read(offsets, end);
-        let high = read(offsets, end + 1);
-        emit_end(starts, ids, scores, alpha, emitted, onward, z, low, high);
-        end += 1;
+        let low = lattice.low(end);
+        let high = lattice.high(end);
+        emit_end(lattice, scores, alpha, emitted, onward, z, low, high);
     }
 }
 
 // The sum over all cuts, and at each edge's number in `emitted` its share of that sum. `alpha` and `beta` are work slices.
 pub fn expectations_core(
-    offsets: &[u32],
-    starts: &[u32],
-    ids: &[u32],
+    lattice: &Lattice,
     scores: &[f64],
     alpha: &mut [f64],
     beta: &mut [f64],
     emitted: &mut [f64],
-    n: usize,
 ) -> f64
-    requires word_formed { WordFormed offsets.now starts.now ids.now (length scores.now) n }
-    requires n_in_bounds { (n < length alpha.old) × (n < length beta.old) × (length starts.now ≤ length emitted.old) }
-    ensures value { result ≡ Sums.expected_sum offsets.now starts.now ids.now scores.now n }
-    ensures emitted_after { emitted.new ≡ Sums.expected_shares offsets.now starts.now ids.now scores.now n ++ drop (length starts.now) emitted.old }
+    requires word_formed { WordFormed lattice.now.offsets.now lattice.now.starts.now lattice.now.ids.now (length scores.now) lattice.now.n }
+    requires n_in_bounds { (lattice.now.n < length alpha.old) × (lattice.now.n < length beta.old) × (length lattice.now.starts.now ≤ length emitted.old) }
+    ensures value { result ≡ Sums.expected_sum lattice.now.offsets.now lattice.now.starts.now lattice.now.ids.now scores.now lattice.now.n }
+    ensures emitted_after { emitted.new ≡ Sums.expected_shares lattice.now.offsets.now lattice.now.starts.now lattice.now.ids.now scores.now lattice.now.n ++ drop (length lattice.now.starts.now) emitted.old }
 {
-    forward(offsets, starts, ids, scores, alpha, n);
-    let z = alpha[n];
+    forward(lattice, scores, alpha);
+    let z = alpha[lattice.n];
     if !is_finite(z) {
-        fill(emitted, 0.0, starts.len());
+        emitted[..lattice.starts.len()].fill(0.0);
         return lowest();
     }
-    backward(offsets, starts, ids, scores, beta, n);
-    let positions = n + 1;
-    emit(
-        offsets,
-        starts,
-        ids,
-        scores,
-        &alpha[..positions],
-        beta,
-        emitted,
-        z,
-        n,
-    );
+    backward(lattice, scores, beta);
+    emit(lattice, scores, &alpha[..lattice.n + 1], beta, emitted, z);
     z
 }

@@ -1,24 +1,15 @@
--- What a call answers in C: 0 where it was accepted, else the refusal's number; and what it tells beside it, how many edges,
--- else the refusal's place. Definitions only.
-use Rattle.std.specs.Prelude.{ℕ}
-use Rattle.refusal.specs.Numbers.{number_of, place_of}
-use Rattle.fresh.specs.declared.Built.{Built}
-use Rattle.fresh.specs.declared.Built.TheVariants.{Edges, Refused}
-use Rattle.cache.specs.declared.Retained.{Retained}
-use Rattle.cache.specs.declared.Retained.TheVariants.{Edges as Left, Refused as Kept}
+-- What a call tells in C beside its answer: how many, else the refusal's place; and the sum that it gives, if it gives one. A
+-- refusal gives none. Definitions only.
+use Rattle.std.specs.Prelude.{List, ℕ, set, Float, Result, Ok, Err}
+use Rattle.refusal.specs.declared.Refusal.{Refusal}
+use Rattle.refusal.specs.Numbers.{place_of}
 
-abbrev pub built_number : Built → ℕ
-built_number (Edges count) = 0
-built_number (Refused refusal) = number_of refusal
+-- `many` says how many there are, of what an accepted call gives
+abbrev pub answer_told : {A : Type 0} → (A → ℕ) → Result A Refusal → ℕ
+answer_told many (Ok given) = many given
+answer_told many (Err refusal) = place_of refusal
 
-abbrev pub built_told : Built → ℕ
-built_told (Edges count) = count
-built_told (Refused refusal) = place_of refusal
-
-abbrev pub retained_number : Retained → ℕ
-retained_number (Left count) = 0
-retained_number (Kept refusal) = number_of refusal
-
-abbrev pub retained_told : Retained → ℕ
-retained_told (Left count) = count
-retained_told (Kept refusal) = place_of refusal
+-- `score` says which sum it is, of what an accepted call gives
+abbrev pub answer_sum : {A : Type 0} → (A → Float) → Result A Refusal → List Float → List Float
+answer_sum score (Ok given) sum = set sum 0 (score given)
+answer_sum score (Err refusal) sum = sum

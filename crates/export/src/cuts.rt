@@ -5,35 +5,35 @@
 // there is nothing to count; and a refusal's place.
 //
 // A short word's cut comes back by value, path and all, in a struct that C knows.
-ghost use Rattle.std.specs.Prelude.{◌≡◌, false, pos, length, set};
-ghost use Rattle.std.specs.Float.{fin};
+ghost use Rattle.std.specs.Prelude.{◌≡◌, Bool, length, set, Float, Result};
 ghost use Rattle.cut.specs.Cut.{Answers, Excludes, zeros, zero_floats};
 ghost use Rattle.cut.specs.Sums.{Connects, Expects};
 ghost use Rattle.one_word.specs.Word as OneWord;
 ghost use Rattle.cut.specs.declared.Cut as CutOf;
-ghost use Rattle.cut.specs.declared.Excluded as ExcludedOf;
-ghost use Rattle.cut.specs.declared.Connection as ConnectionOf;
-ghost use Rattle.cut.specs.declared.Expected as ExpectedOf;
-ghost use Rattle.export.specs.Cuts.{cut_number, cut_told, cut_sum, short_score, excluded_number, excluded_told, excluded_sum, connection_number, connection_told, expected_number, expected_told, expected_sum};
+ghost use Rattle.refusal.specs.declared.Refusal as RefusalOf;
+ghost use Rattle.told.specs.Told.{answer_number};
+ghost use Rattle.export.specs.Cuts.{cut_told, cut_sum, short_score, score_told, score_sum, connection_told};
 
-use crate::{accepted, refused};
-use cut::{Connection, Cut, Excluded, Expected};
+use crate::answer;
+use cut::Cut;
+use refusal::Refusal;
+use told::tell;
 
-// A sum, at slot 0 if there is one.
-fn give(sum: &mut [f64], value: f64)
-    ensures { sum.new ≡ set sum.old 0 value }
+// A call's answer that gives a sum: 0, the sum, and how many; or the refusal's number, and its place.
+fn summed(sum: &mut [f64], told: &mut [u64], given: Result<Cut, Refusal>) -> u32
+    ensures { (result ≡ answer_number given) × (told.new ≡ set told.old 0 (cut_told given)) × (sum.new ≡ cut_sum given sum.old) }
 {
-    if 0 < sum.len() {
-        sum[0] = value;
+    if let Ok(cut) = given {
+        tell(sum, 0, cut.score);
     }
+    answer(told, given.map(|cut| cut.count))
 }
 
-// An accepted call that gives a sum: 0, the sum, and how many.
-fn summed(sum: &mut [f64], told: &mut [u64], value: f64, count: usize) -> u32
-    ensures { (result ≡ 0) × (told.new ≡ set told.old 0 count) × (sum.new ≡ set sum.old 0 value) }
+// The same of a sum alone, where there is nothing to count.
+fn summed_alone(sum: &mut [f64], told: &mut [u64], given: Result<f64, Refusal>) -> u32
+    ensures { (result ≡ answer_number given) × (told.new ≡ set told.old 0 (score_told given)) × (sum.new ≡ score_sum given sum.old) }
 {
-    give(sum, value);
-    accepted(told, count)
+    summed(sum, told, given.map(|score| Cut { score, count: 0 }))
 }
 
 // The best cut of a word, as `cut::viterbi` has it.
@@ -50,13 +50,11 @@ pub extern "C" fn causeylark_viterbi(
     sum: &mut [f64],
     told: &mut [u64],
 ) -> u32
-    ensures answers { (r : CutOf.Cut) × Answers (record { offsets = offsets.now; starts = starts.now; ids = ids.now; n = n; scores = scores.now }) best.old back.old path.old path.new r × (result ≡ cut_number r) × (told.new ≡ set told.old 0 (cut_told r)) × (sum.new ≡ cut_sum r sum.old) }
+    ensures answers { (r : Result CutOf.Cut RefusalOf.Refusal) × Answers (record { offsets = offsets.now; starts = starts.now; ids = ids.now; n = n; scores = scores.now }) best.old back.old path.old path.new r × (result ≡ answer_number r) × (told.new ≡ set told.old 0 (cut_told r)) × (sum.new ≡ cut_sum r sum.old) }
     ensures best_after { (best.new ≡ zero_floats (length best.old)) × (back.new ≡ zeros (length back.old)) }
 {
-    match cut::viterbi(offsets, starts, ids, n, scores, best, back, path) {
-        Cut::Score { score, count } => summed(sum, told, score, count),
-        Cut::Refused(r) => refused(told, r),
-    }
+    let found = cut::viterbi(offsets, starts, ids, n, scores, best, back, path);
+    summed(sum, told, found)
 }
 
 // A short word's best cut by value: what C is answered and told, the score, and "32 ids"; the unused ids are 0.
@@ -67,13 +65,6 @@ pub struct ByValue {
     pub told: u64,
     pub number: u32,
     pub ids: [u32; 32],
-}
-
-// The score of a refusal.
-fn no_score() -> f64
-    ensures { result ≡ fin false 0 (pos 0) }
-{
-    0.0
 }
 
 // The best cut of a word of at most 32 characters, as `cut::viterbi_short` has it.
@@ -87,24 +78,24 @@ pub extern "C" fn causeylark_viterbi_short(
     best: &mut [f64],
     back: &mut [u32],
 ) -> ByValue
-    ensures answers { (r : CutOf.Cut) × Answers (record { offsets = offsets.now; starts = starts.now; ids = ids.now; n = n; scores = scores.now }) best.old back.old (zeros 32) result.ids r × (result.number ≡ cut_number r) × (result.told ≡ cut_told r) × (result.score ≡ short_score r) }
+    ensures answers { (r : Result CutOf.Cut RefusalOf.Refusal) × Answers (record { offsets = offsets.now; starts = starts.now; ids = ids.now; n = n; scores = scores.now }) best.old back.old (zeros 32) result.ids r × (result.number ≡ answer_number r) × (result.told ≡ cut_told r) × (result.score ≡ short_score r) }
     ensures best_after { (best.new ≡ zero_floats (length best.old)) × (back.new ≡ zeros (length back.old)) }
 {
     let short = cut::viterbi_short(offsets, starts, ids, n, scores, best, back);
-    let path = short.ids;
-    let found = short.cut;
-    match found {
-        Cut::Score { score, count } => ByValue {
-            score,
-            told: count as u64,
+    // a field that is an array is not read straight into a struct, for the check
+    let ids = short.ids;
+    match short.cut {
+        Ok(cut) => ByValue {
+            score: cut.score,
+            told: cut.count as u64,
             number: 0,
-            ids: path,
+            ids,
         },
-        Cut::Refused(r) => ByValue {
-            score: no_score(),
+        Err(r) => ByValue {
+            score: 0.0,
             told: refusal::place(r),
-            number: refusal::number(r) as u32,
-            ids: path,
+            number: u32::from(refusal::number(r)),
+            ids,
         },
     }
 }
@@ -122,13 +113,11 @@ pub extern "C" fn causeylark_viterbi_excluding(
     sum: &mut [f64],
     told: &mut [u64],
 ) -> u32
-    ensures excludes { (r : ExcludedOf.Excluded) × Excludes (record { offsets = offsets.now; starts = starts.now; ids = ids.now; n = n; scores = scores.now }) excluded best.old r × (result ≡ excluded_number r) × (told.new ≡ set told.old 0 (excluded_told r)) × (sum.new ≡ excluded_sum r sum.old) }
+    ensures excludes { (r : Result Float RefusalOf.Refusal) × Excludes (record { offsets = offsets.now; starts = starts.now; ids = ids.now; n = n; scores = scores.now }) excluded best.old r × (result ≡ answer_number r) × (told.new ≡ set told.old 0 (score_told r)) × (sum.new ≡ score_sum r sum.old) }
     ensures best_after { best.new ≡ zero_floats (length best.old) }
 {
-    match cut::viterbi_excluding(offsets, starts, ids, n, scores, excluded, best) {
-        Excluded::Score(score) => summed(sum, told, score, 0),
-        Excluded::Refused(r) => refused(told, r),
-    }
+    let found = cut::viterbi_excluding(offsets, starts, ids, n, scores, excluded, best);
+    summed_alone(sum, told, found)
 }
 
 // Whether a word has a cut, as `cut::is_connected` has it.
@@ -141,14 +130,11 @@ pub extern "C" fn causeylark_is_connected(
     reach: &mut [u32],
     told: &mut [u64],
 ) -> u32
-    ensures connects { (r : ConnectionOf.Connection) × Connects offsets.now starts.now ids.now n reach.old r × (result ≡ connection_number r) × (told.new ≡ set told.old 0 (connection_told r)) }
+    ensures connects { (r : Result Bool RefusalOf.Refusal) × Connects offsets.now starts.now ids.now n reach.old r × (result ≡ answer_number r) × (told.new ≡ set told.old 0 (connection_told r)) }
     ensures reach_after { reach.new ≡ zeros (length reach.old) }
 {
-    match cut::is_connected(offsets, starts, ids, n, reach) {
-        Connection::Cuts => accepted(told, 1),
-        Connection::NoCut => accepted(told, 0),
-        Connection::Refused(r) => refused(told, r),
-    }
+    let cuts = cut::is_connected(offsets, starts, ids, n, reach);
+    answer(told, cuts.map(usize::from))
 }
 
 // The expected count of every edge of a word and the sum over all cuts, as `cut::expectations` has them.
@@ -165,13 +151,11 @@ pub extern "C" fn causeylark_expectations(
     sum: &mut [f64],
     told: &mut [u64],
 ) -> u32
-    ensures expects { (r : ExpectedOf.Expected) × Expects (record { offsets = offsets.now; starts = starts.now; ids = ids.now; n = n; scores = scores.now }) alpha.old beta.old emitted.old emitted.new r × (result ≡ expected_number r) × (told.new ≡ set told.old 0 (expected_told r)) × (sum.new ≡ expected_sum r sum.old) }
+    ensures expects { (r : Result Float RefusalOf.Refusal) × Expects (record { offsets = offsets.now; starts = starts.now; ids = ids.now; n = n; scores = scores.now }) alpha.old beta.old emitted.old emitted.new r × (result ≡ answer_number r) × (told.new ≡ set told.old 0 (score_told r)) × (sum.new ≡ score_sum r sum.old) }
     ensures alpha_after { (alpha.new ≡ zero_floats (length alpha.old)) × (beta.new ≡ zero_floats (length beta.old)) }
 {
-    match cut::expectations(offsets, starts, ids, n, scores, alpha, beta, emitted) {
-        Expected::Sum(z) => summed(sum, told, z, 0),
-        Expected::Refused(r) => refused(told, r),
-    }
+    let found = cut::expectations(offsets, starts, ids, n, scores, alpha, beta, emitted);
+    summed_alone(sum, told, found)
 }
 
 // The best cut of one word over a list of pieces, as `one_word::cut` has it. Of a word that is empty it tells 0 pieces.
@@ -189,13 +173,11 @@ pub extern "C" fn causeylark_cut(
     sum: &mut [f64],
     told: &mut [u64],
 ) -> u32
-    ensures answers { (r : CutOf.Cut) × OneWord.Answers (record { setting = setting; word = word.now; spellings = spellings.now; pieces = pieces.now; scores = scores.now }) (record { keys = keys.old; ends = ends.old; table = table.old }) path.old path.new r × (result ≡ cut_number r) × (told.new ≡ set told.old 0 (cut_told r)) × (sum.new ≡ cut_sum r sum.old) }
+    ensures answers { (r : Result CutOf.Cut RefusalOf.Refusal) × OneWord.Answers (record { setting = setting; word = word.now; spellings = spellings.now; pieces = pieces.now; scores = scores.now }) (record { keys = keys.old; ends = ends.old; table = table.old }) path.old path.new r × (result ≡ answer_number r) × (told.new ≡ set told.old 0 (cut_told r)) × (sum.new ≡ cut_sum r sum.old) }
     ensures zeros { OneWord.Zeros (record { keys = keys.old; ends = ends.old; table = table.old }) (record { keys = keys.new; ends = ends.new; table = table.new }) }
 {
-    match one_word::cut(
+    let found = one_word::cut(
         setting, word, spellings, pieces, scores, path, keys, ends, table,
-    ) {
-        Cut::Score { score, count } => summed(sum, told, score, count),
-        Cut::Refused(r) => refused(told, r),
-    }
+    );
+    summed(sum, told, found)
 }

@@ -10,18 +10,17 @@
 
 mod cuts;
 
-ghost use Rattle.std.specs.Prelude.{◌≡◌, set};
+ghost use Rattle.std.specs.Prelude.{◌≡◌, ℕ, set, Result};
 ghost use Rattle.math.specs.Steps.{exp_steps, ln_steps, ln1p_steps};
 ghost use Rattle.utf8.specs.Chars.{valid_of};
-ghost use Rattle.refusal.specs.Numbers.{number_of, place_of};
 ghost use Rattle.fresh.specs.Build.{Answers, Zeros};
 ghost use Rattle.cache.specs.Retain as Retain;
-ghost use Rattle.fresh.specs.declared.Built as BuiltOf;
-ghost use Rattle.cache.specs.declared.Retained as RetainedOf;
-ghost use Rattle.export.specs.Told.{built_number, built_told, retained_number, retained_told};
+ghost use Rattle.refusal.specs.declared.Refusal as RefusalOf;
+ghost use Rattle.told.specs.Told.{answer_number};
+ghost use Rattle.export.specs.Told.{answer_told};
 
-use cache::{Built, Retained};
 use refusal::Refusal;
+use told::{refused, tell};
 
 #[unsafe(no_mangle)]
 pub extern "C" fn causeylark_exp(x: f64) -> f64
@@ -51,29 +50,17 @@ pub extern "C" fn causeylark_utf8_valid_up_to(text: &[u8]) -> usize
     utf8::valid_up_to(text)
 }
 
-// What there is to tell, at slot 0 if there is one.
-fn tell(told: &mut [u64], value: u64)
-    ensures { told.new ≡ set told.old 0 value }
+// A call's answer: 0, and how many; or the refusal's number, and its place.
+fn answer(told: &mut [u64], given: Result<usize, Refusal>) -> u32
+    ensures { (result ≡ answer_number given) × (told.new ≡ set told.old 0 (answer_told (λ many. many) given)) }
 {
-    if 0 < told.len() {
-        told[0] = value;
+    match given {
+        Ok(many) => {
+            tell(told, 0, many as u64);
+            0
+        }
+        Err(r) => refused(told, r),
     }
-}
-
-// An accepted call: 0, and how many edges.
-fn accepted(told: &mut [u64], edges: usize) -> u32
-    ensures { (result ≡ 0) × (told.new ≡ set told.old 0 edges) }
-{
-    tell(told, edges as u64);
-    0
-}
-
-// A refused call: the refusal's number, and its place.
-fn refused(told: &mut [u64], r: Refusal) -> u32
-    ensures { (result ≡ number_of r) × (told.new ≡ set told.old 0 (place_of r)) }
-{
-    tell(told, refusal::place(r));
-    refusal::number(r) as u32
 }
 
 // Builds the lattices of words over pieces, as `cache::build` does.
@@ -93,14 +80,12 @@ pub extern "C" fn causeylark_build(
     table: &mut [u32],
     told: &mut [u64],
 ) -> u32
-    ensures { (r : BuiltOf.Built) × Answers (record { setting = setting; text = text.now; words = words.now; spellings = spellings.now; pieces = pieces.now }) (record { offsets = offsets.old; starts = starts.old; ids = ids.old; spans = spans.old }) (record { keys = keys.old; ends = ends.old; table = table.old }) (record { offsets = offsets.new; starts = starts.new; ids = ids.new; spans = spans.new }) r × Zeros (record { keys = keys.old; ends = ends.old; table = table.old }) (record { keys = keys.new; ends = ends.new; table = table.new }) × (result ≡ built_number r) × (told.new ≡ set told.old 0 (built_told r)) }
+    ensures { (r : Result ℕ RefusalOf.Refusal) × Answers (record { setting = setting; text = text.now; words = words.now; spellings = spellings.now; pieces = pieces.now }) (record { offsets = offsets.old; starts = starts.old; ids = ids.old; spans = spans.old }) (record { keys = keys.old; ends = ends.old; table = table.old }) (record { offsets = offsets.new; starts = starts.new; ids = ids.new; spans = spans.new }) r × Zeros (record { keys = keys.old; ends = ends.old; table = table.old }) (record { keys = keys.new; ends = ends.new; table = table.new }) × (result ≡ answer_number r) × (told.new ≡ set told.old 0 (answer_told (λ many. many) r)) }
 {
-    match cache::build(
+    let built = cache::build(
         setting, text, words, spellings, pieces, offsets, starts, ids, spans, keys, ends, table,
-    ) {
-        Built::Edges(edges) => accepted(told, edges),
-        Built::Refused(r) => refused(told, r),
-    }
+    );
+    answer(told, built)
 }
 
 // Prunes a cache in place, as `cache::retain` does.
@@ -114,10 +99,8 @@ pub extern "C" fn causeylark_retain(
     remap: &[u32],
     told: &mut [u64],
 ) -> u32
-    ensures { (r : RetainedOf.Retained) × Retain.Answers offsets.old starts.old ids.old spans.old words remap.now offsets.new starts.new ids.new spans.new r × (result ≡ retained_number r) × (told.new ≡ set told.old 0 (retained_told r)) }
+    ensures { (r : Result ℕ RefusalOf.Refusal) × Retain.Answers offsets.old starts.old ids.old spans.old words remap.now offsets.new starts.new ids.new spans.new r × (result ≡ answer_number r) × (told.new ≡ set told.old 0 (answer_told (λ many. many) r)) }
 {
-    match cache::retain(offsets, starts, ids, spans, words, remap) {
-        Retained::Edges(edges) => accepted(told, edges),
-        Retained::Refused(r) => refused(told, r),
-    }
+    let retained = cache::retain(offsets, starts, ids, spans, words, remap);
+    answer(told, retained)
 }

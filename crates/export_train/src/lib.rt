@@ -8,95 +8,30 @@
 // calls both links both. include/causeylark.h declares it for C, and bindings/rust for Rust.
 #![tactic(auto)]
 
-ghost use Rattle.std.specs.Prelude.{◌≡◌, ◌*◌, set, take};
-ghost use Rattle.refusal.specs.Numbers.{number_of, place_of};
+ghost use Rattle.std.specs.Prelude.{◌≡◌, ◌*◌, take, Result};
 ghost use Rattle.listing.specs.Start.{count_of};
 ghost use Rattle.make.specs.declared.Trained as TrainedOf;
+ghost use Rattle.refusal.specs.declared.Refusal as RefusalOf;
 ghost use Rattle.training.specs.Train.{Answers, Zeros};
-ghost use Rattle.export_train.specs.Told.{seed_size_of, flag_of, accepted_told, trained_number, trained_told};
+ghost use Rattle.told.specs.Told.{seed_size_of, answer_number};
+ghost use Rattle.export_train.specs.Told.{trained_told};
 
 use make::Trained;
 use refusal::Refusal;
-use settings::{SeedSize, Settings};
+use told::answer;
 
-// "`seed_size`, if set": it is where the flag is not 0.
-fn seed_size(flag: u32, seed: usize) -> SeedSize
-    ensures { result ≡ seed_size_of flag seed }
+// What training answered: of a result how many tokens there are, how many pieces are required, and whether it stalled.
+fn answered(told: &mut [u64], trained: Result<Trained, Refusal>) -> u32
+    ensures { (result ≡ answer_number trained) × (told.new ≡ trained_told trained told.old) }
 {
-    if flag == 0 {
-        return SeedSize::Unset;
-    }
-    SeedSize::Set(seed)
-}
-
-// The settings, of plain numbers. Apart from the call of training, where each step and each value costs the prover much.
-fn settings_of(
-    vocab_size: usize,
-    seed_flag: u32,
-    seed: usize,
-    max_piece_chars: usize,
-    min_frequency: u64,
-    shrink_factor: f64,
-    em_iterations: usize,
-) -> Settings
-    ensures { result ≡ record { vocab_size = vocab_size; seed_size = seed_size_of seed_flag seed; max_piece_chars = max_piece_chars; min_frequency = min_frequency; shrink_factor = shrink_factor; em_iterations = em_iterations } }
-{
-    Settings {
-        vocab_size,
-        seed_size: seed_size(seed_flag, seed),
-        max_piece_chars,
-        min_frequency,
-        shrink_factor,
-        em_iterations,
-    }
-}
-
-// What there is to tell, at a slot if there is one.
-fn tell(told: &mut [u64], slot: usize, value: u64)
-    ensures { told.new ≡ set told.old slot value }
-{
-    if slot < told.len() {
-        told[slot] = value;
-    }
-}
-
-// 1 where something is so.
-fn flag(so: bool) -> u64
-    ensures { result ≡ flag_of so }
-{
-    if so { 1 } else { 0 }
-}
-
-// An accepted call: 0, how many tokens, how many pieces are required, and whether it stalled.
-fn accepted(told: &mut [u64], tokens: usize, required: usize, stalled: bool) -> u32
-    ensures { (result ≡ 0) × (told.new ≡ accepted_told tokens required stalled told.old) }
-{
-    tell(told, 0, tokens as u64);
-    tell(told, 1, required as u64);
-    tell(told, 2, flag(stalled));
-    0
-}
-
-// A refused call: the refusal's number, and its place.
-fn refused(told: &mut [u64], r: Refusal) -> u32
-    ensures { (result ≡ number_of r) × (told.new ≡ set told.old 0 (place_of r)) }
-{
-    tell(told, 0, refusal::place(r));
-    refusal::number(r) as u32
-}
-
-// What training answered, by numbers.
-fn answered(told: &mut [u64], trained: Trained) -> u32
-    ensures { (result ≡ trained_number trained) × (told.new ≡ trained_told trained told.old) }
-{
-    match trained {
-        Trained::Tokens {
-            tokens,
-            required,
-            stalled,
-        } => accepted(told, tokens, required, stalled),
-        Trained::Refused(r) => refused(told, r),
-    }
+    answer(
+        told,
+        trained.map(|given| (
+            given.tokens as u64,
+            given.required as u64,
+            u64::from(given.stalled),
+        )),
+    )
 }
 
 // Trains on words of a text, as `training::train` does.
@@ -137,11 +72,11 @@ pub extern "C" fn causeylark_train(
     token_scores: &mut [f64],
     told: &mut [u64],
 ) -> u32
-    ensures answers { (r : TrainedOf.Trained) × Answers (record { settings = record { vocab_size = vocab_size; seed_size = seed_size_of seed_flag seed; max_piece_chars = max_piece_chars; min_frequency = min_frequency; shrink_factor = shrink_factor; em_iterations = em_iterations }; texts = texts.now; specials = specials.now; text = text.now; words = take (2 * (count_of words.now frequencies.now)) words.now; frequencies = take (count_of words.now frequencies.now) frequencies.now }) (record { kept = kept.old; counts = counts.old; table = table.old; chars = chars.old; places = places.old; order = order.old; work = work.old; ranks = ranks.old; pieces = pieces.old; tallies = tallies.old; scores = scores.old; expected = expected.old; keys = keys.old; ends = ends.old; offsets = offsets.old; starts = starts.old; ids = ids.old; spans = spans.old }) (record { bytes = bytes.old; tokens = tokens.old; scores = token_scores.old }) (record { bytes = bytes.new; tokens = tokens.new; scores = token_scores.new }) r × (result ≡ trained_number r) × (told.new ≡ trained_told r told.old) }
+    ensures answers { (r : Result TrainedOf.Trained RefusalOf.Refusal) × Answers (record { settings = record { vocab_size = vocab_size; seed_size = seed_size_of seed_flag seed; max_piece_chars = max_piece_chars; min_frequency = min_frequency; shrink_factor = shrink_factor; em_iterations = em_iterations }; texts = texts.now; specials = specials.now; text = text.now; words = take (2 * (count_of words.now frequencies.now)) words.now; frequencies = take (count_of words.now frequencies.now) frequencies.now }) (record { kept = kept.old; counts = counts.old; table = table.old; chars = chars.old; places = places.old; order = order.old; work = work.old; ranks = ranks.old; pieces = pieces.old; tallies = tallies.old; scores = scores.old; expected = expected.old; keys = keys.old; ends = ends.old; offsets = offsets.old; starts = starts.old; ids = ids.old; spans = spans.old }) (record { bytes = bytes.old; tokens = tokens.old; scores = token_scores.old }) (record { bytes = bytes.new; tokens = tokens.new; scores = token_scores.new }) r × (result ≡ answer_number r) × (told.new ≡ trained_told r told.old) }
     ensures zeros { Zeros (record { kept = kept.old; counts = counts.old; table = table.old; chars = chars.old; places = places.old; order = order.old; work = work.old; ranks = ranks.old; pieces = pieces.old; tallies = tallies.old; scores = scores.old; expected = expected.old; keys = keys.old; ends = ends.old; offsets = offsets.old; starts = starts.old; ids = ids.old; spans = spans.old }) (record { kept = kept.new; counts = counts.new; table = table.new; chars = chars.new; places = places.new; order = order.new; work = work.new; ranks = ranks.new; pieces = pieces.new; tallies = tallies.new; scores = scores.new; expected = expected.new; keys = keys.new; ends = ends.new; offsets = offsets.new; starts = starts.new; ids = ids.new; spans = spans.new }) }
 {
     let trained = training::train(
-        settings_of(
+        told::settings_of(
             vocab_size,
             seed_flag,
             seed,

@@ -5,51 +5,15 @@
 ghost use Rattle.std.specs.Prelude.{◌≡◌, length, replicate};
 ghost use Rattle.finish.specs.Steps.{nought, GoingOn, GoesOn};
 
-use listing::Started;
+use listing::Seeded;
 use make::Trained;
+use refusal::Refusal;
 use settings::Settings;
+use shrink::{State, Work};
 
-// Zeros in the slices that have a slot for each piece.
-fn clear_pieces(
-    order: &mut [u32],
-    work: &mut [u32],
-    ranks: &mut [u64],
-    pieces: &mut [u32],
-    scores: &mut [f64],
-    expected: &mut [f64],
-)
-    ensures { (order.new ≡ replicate (length order.old) 0) × (work.new ≡ replicate (length work.old) 0) × (ranks.new ≡ replicate (length ranks.old) 0) × (pieces.new ≡ replicate (length pieces.old) 0) × (scores.new ≡ replicate (length scores.old) nought) × (expected.new ≡ replicate (length expected.old) nought) }
-{
-    slots::clear_numbers(order);
-    slots::clear_numbers(work);
-    slots::clear_keys(ranks);
-    slots::clear_numbers(pieces);
-    slots::clear_floats(scores);
-    slots::clear_floats(expected);
-}
-
-// Zeros in the trie and in the lattices.
-fn clear_lattices(
-    keys: &mut [u64],
-    ends: &mut [u32],
-    offsets: &mut [u32],
-    starts: &mut [u32],
-    ids: &mut [u32],
-    spans: &mut [u32],
-)
-    ensures { (keys.new ≡ replicate (length keys.old) 0) × (ends.new ≡ replicate (length ends.old) 0) × (offsets.new ≡ replicate (length offsets.old) 0) × (starts.new ≡ replicate (length starts.old) 0) × (ids.new ≡ replicate (length ids.old) 0) × (spans.new ≡ replicate (length spans.old) 0) }
-{
-    slots::clear_keys(keys);
-    slots::clear_numbers(ends);
-    slots::clear_numbers(offsets);
-    slots::clear_numbers(starts);
-    slots::clear_numbers(ids);
-    slots::clear_numbers(spans);
-}
-
-// What follows a start, and zeros in all work slices of it.
+// What follows a start, and zeros in all work slices of it. Its slices are lent one by one, as training's caller lends them.
 pub fn finish(
-    started: Started,
+    started: Result<Seeded, Refusal>,
     settings: Settings,
     texts: &[u8],
     specials: &[u32],
@@ -71,12 +35,29 @@ pub fn finish(
     bytes: &mut [u8],
     tokens: &mut [u32],
     token_scores: &mut [f64],
-) -> Trained
+) -> Result<Trained, Refusal>
     requires { GoingOn settings texts.now specials.now text.now kept.now counts.now (length order.old) (length work.old) (length ranks.old) pieces.old scores.old (length expected.old) started }
     ensures goes_on { GoesOn settings texts.now specials.now text.now kept.now counts.now pieces.old scores.old started keys.old ends.old (record { offsets = offsets.old; starts = starts.old; ids = ids.old; spans = spans.old }) (record { bytes = bytes.old; tokens = tokens.old; scores = token_scores.old }) (record { bytes = bytes.new; tokens = tokens.new; scores = token_scores.new }) result }
     ensures order_after { (order.new ≡ replicate (length order.old) 0) × (work.new ≡ replicate (length work.old) 0) × (ranks.new ≡ replicate (length ranks.old) 0) × (pieces.new ≡ replicate (length pieces.old) 0) × (scores.new ≡ replicate (length scores.old) nought) × (expected.new ≡ replicate (length expected.old) nought) }
     ensures keys_after { (keys.new ≡ replicate (length keys.old) 0) × (ends.new ≡ replicate (length ends.old) 0) × (offsets.new ≡ replicate (length offsets.old) 0) × (starts.new ≡ replicate (length starts.old) 0) × (ids.new ≡ replicate (length ids.old) 0) × (spans.new ≡ replicate (length spans.old) 0) }
 {
+    let mut state = State {
+        pieces,
+        scores,
+        offsets,
+        starts,
+        ids,
+        spans,
+    };
+    // Seeding's `order`, `work` and `ranks` serve pruning too.
+    let mut work_slices = Work {
+        expected,
+        bits: ranks,
+        ranked: order,
+        remap: work,
+        keys,
+        ends,
+    };
     let answer = go_on::go_on(
         started,
         settings,
@@ -85,23 +66,13 @@ pub fn finish(
         text,
         kept,
         counts,
-        order,
-        work,
-        ranks,
-        pieces,
-        scores,
-        expected,
-        keys,
-        ends,
-        offsets,
-        starts,
-        ids,
-        spans,
+        &mut state,
+        &mut work_slices,
         bytes,
         tokens,
         token_scores,
     );
-    clear_pieces(order, work, ranks, pieces, scores, expected);
-    clear_lattices(keys, ends, offsets, starts, ids, spans);
+    state.clear();
+    work_slices.clear();
     answer
 }

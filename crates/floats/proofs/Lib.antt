@@ -1,1 +1,1 @@
-pub mod Between
+pub mod Finite

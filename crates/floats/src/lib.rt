@@ -1,4 +1,4 @@
-// The ends of the floats, and what lies between them.
+// The ends of the floats, and what lies between them: the library's, as the definitions of the crates above spell them.
 #![tactic(auto)]
 
 ghost use Rattle.std.specs.Prelude.{◌≡◌, true, false};
@@ -9,19 +9,19 @@ ghost use Rattle.std.specs.Float.Ieee.Scale.{finite};
 pub fn lowest() -> f64
     ensures { result ≡ inf true }
 {
-    -1.0 / 0.0
+    f64::NEG_INFINITY
 }
 
-// Plus infinity, the loss of a piece that nothing else spells.
+// Plus infinity.
 pub fn highest() -> f64
     ensures { result ≡ inf false }
 {
-    1.0 / 0.0
+    f64::INFINITY
 }
 
 // Whether a float is finite: neither an infinity nor NaN, which is below and above nothing.
 pub fn is_finite(x: f64) -> bool
     ensures { result ≡ finite x }
 {
-    x > lowest() && x < highest()
+    x.is_finite()
 }

@@ -1,6 +1,6 @@
--- How far the loops of `all_digits` and `pairs` have come, and each way out of `decode`.
+-- Whether a line is all digits, and how far the loop of `pairs` has come.
 -- Assumes nothing.
-use Prim.Native.Nat.{ℕ, zero, suc, ◌+◌, ◌/◌, ◌%◌, ◌≤◌, ◌<◌}
+use Prim.Native.Nat.{ℕ, zero, suc, ◌+◌, ◌/◌, ◌≤◌, ◌<◌}
 use mathlib.Core.Path.{◌≡◌, refl, ◌∙◌, sym, ap}
 use mathlib.Core.Bool.{Bool, true, false, cond}
 use mathlib.Core.List.{List, [], ◌∷◌, ◌++◌, append_assoc}
@@ -8,49 +8,30 @@ use native.Mathlib.Numerals.{add-one}
 use native.Mathlib.Omega.{arith}
 use lib.ListN.{length, drop, get_or, set, length-set, length-append}
 use lib.Seq.{drop-cons, set_at}
-use borrow.Author.Tests.{le-leb, lt-leb, eq-eqb, ne_eqb}
-use Rattle.hexadecimal.specs.Digits.{value_of}
-use Rattle.hexadecimal.specs.declared.Nibble.TheVariants.{Value as Digit}
-use Rattle.hexadecimal.proofs.Valued.{digit_below}
-use Rattle.frames.specs.Bytes.{is_digit, digits_only, byte_at, bytes_upto, bytes_of, decoded_of, decoded_in}
-use Rattle.frames.specs.declared.line.Decoded.TheVariants.{Bytes, Bad}
+use Rattle.std.specs.Bool.{MatchBool}
+use Rattle.std.specs.List.{AllWithin, HoldsAt}
+use Rattle.laws.proofs.Choices.{cond_cases}
+use Rattle.frames.specs.Bytes.{is_digit, digits_only, byte_at, bytes_upto, bytes_of}
 
--- what is left of a line decides
-pub record Digits (line : List ℕ) (at : ℕ) : Type 0 where
-  pub upto : at ≤ length line
-  pub same : digits_only line ≡ digits_only (drop at line)
-
-next_digit : (line : List ℕ) (at : ℕ) → at < length line
-    → digits_only (drop at line) ≡ cond (is_digit (get_or line at 0)) (digits_only (drop (at + 1) line)) false
+-- a line is all digits where each byte is one, and not where one is none
+all_digits : (line : List ℕ) → AllWithin (λ b. is_digit b ≡ true) line 0 (length line) → true ≡ digits_only line
 unfolding digits_only
-next_digit line at h = rw (add-one at, drop-cons line at 0 h)
+all_digits [] h = refl
+all_digits (b ∷ line) h =
+    all_digits line (λ k d m n. h (suc k) d (omega arith) (omega arith))
+    ∙ sym (ap (λ (t : Bool). cond t (digits_only line) false) (h 0 0 (omega arith) (omega arith)))
 
-none_left : (line : List ℕ) (at : ℕ) → length line ≤ at → digits_only (drop at line) ≡ true
+no_digit : (line : List ℕ) (k : ℕ) → k < length line → HoldsAt (λ b. is_digit b ≡ false) line k → false ≡ digits_only line
 unfolding digits_only
-none_left [] zero h = refl
-none_left [] (suc at) h = refl
-none_left (b ∷ line) zero h = absurd (omega arith)
-none_left (b ∷ line) (suc at) h = none_left line at (omega arith)
+no_digit [] k l h = absurd (omega arith)
+no_digit (b ∷ line) zero l h = sym (ap (λ (t : Bool). cond t (digits_only line) false) (h 0))
+no_digit (b ∷ line) (suc k) l h =
+    cond_cases (λ (t : Bool). false ≡ t) (is_digit b) (digits_only line) false (λ e. no_digit line k (omega arith) h) (λ e. refl)
 
-pub digits_none : (line : List ℕ) → Digits line 0
-digits_none line = record { upto = omega arith; same = refl }
-
-module _ {line : List ℕ} {at : ℕ} (d : Digits line at) where
-  pub digits_bad : at < length line → is_digit (get_or line at 0) ≡ false → false ≡ digits_only line
-  digits_bad h e = sym (d.same ∙ next_digit line at h ∙ ap (λ (t : Bool). cond t (digits_only (drop (at + 1) line)) false) e)
-
-  pub digits_more : at < length line → is_digit (get_or line at 0) ≡ true → Digits line (at + 1)
-  digits_more h e = record {
-    upto = omega arith;
-    same = d.same ∙ next_digit line at h ∙ ap (λ (t : Bool). cond t (digits_only (drop (at + 1) line)) false) e;
-  }
-
-  pub digits_end : length line ≤ at → true ≡ digits_only line
-  digits_end h = sym (d.same ∙ none_left line at h)
-
--- a digit's number is below 16
-pub worth_below : (b v : ℕ) → value_of b ≡ Digit v → v < 16
-worth_below b v e = digit_below b e
+pub digits_decided : (line : List ℕ) (all : Bool)
+    → MatchBool all (AllWithin (λ b. is_digit b ≡ true) line 0 (length line)) ((k : ℕ) × (k < length line) × HoldsAt (λ b. is_digit b ≡ false) line k) → all ≡ digits_only line
+digits_decided line true h = all_digits line h
+digits_decided line false (k, l, h) = no_digit line k l h
 
 pub length_bytes : (line : List ℕ) (n : ℕ) → length (bytes_upto line n) ≡ n
 unfolding bytes_upto
@@ -92,26 +73,3 @@ module _ {line before bytes : List ℕ} {i : ℕ} (p : Pairs line before bytes i
   pairs_end h =
       let e : i ≡ length line / 2 = omega (arith, p.near) in
       p.is ∙ ap (λ (j : ℕ). bytes_upto line j ++ drop j before) e
-
--- each way out of `decode`
-module _ (line bytes : List ℕ) where
-  pub odd : (length line % 2 ≡ 0 → ⊥) → (Bad ≡ decoded_of line (length bytes)) × (bytes ≡ decoded_in line bytes)
-  unfolding decoded_of decoded_in
-  odd h = (rw (ne_eqb (length line % 2) 0 h), rw (ne_eqb (length line % 2) 0 h))
-
-  pub no_room : length line % 2 ≡ 0 → length bytes < length line / 2 → (Bad ≡ decoded_of line (length bytes)) × (bytes ≡ decoded_in line bytes)
-  unfolding decoded_of decoded_in
-  no_room g h =
-      (rw (eq-eqb (length line % 2) 0 g, lt-leb (length line / 2) (length bytes) h), rw (eq-eqb (length line % 2) 0 g, lt-leb (length line / 2) (length bytes) h))
-
-  module _ (g : length line % 2 ≡ 0) (h : length line / 2 ≤ length bytes) where
-    pub no_digits : digits_only line ≡ false → (Bad ≡ decoded_of line (length bytes)) × (bytes ≡ decoded_in line bytes)
-    unfolding decoded_of decoded_in
-    no_digits e =
-        (rw (eq-eqb (length line % 2) 0 g, le-leb (length line / 2) (length bytes) h, e), rw (eq-eqb (length line % 2) 0 g, le-leb (length line / 2) (length bytes) h, e))
-
-    pub all_decoded : digits_only line ≡ true → (out : List ℕ) → out ≡ bytes_of line ++ drop (length line / 2) bytes
-        → (Bytes (length line / 2) ≡ decoded_of line (length bytes)) × (out ≡ decoded_in line bytes)
-    unfolding decoded_of decoded_in
-    all_decoded e out f =
-        (rw (eq-eqb (length line % 2) 0 g, le-leb (length line / 2) (length bytes) h, e), rw (eq-eqb (length line % 2) 0 g, le-leb (length line / 2) (length bytes) h, e) f)

@@ -5,16 +5,14 @@ use mathlib.Core.Path.{◌≡◌, refl}
 use mathlib.Core.Bool.{false}
 use mathlib.Core.List.{List, [], ◌∷◌}
 use lib.Ieee.{binary64, of_bits, to_bits}
+use Rattle.std.specs.Prelude.{None, Some, Ok}
 use Rattle.hexadecimal.specs.Digits.{value_of, digits_of}
 use Rattle.settings.specs.declared.Settings.{Settings}
-use Rattle.settings.specs.declared.SeedSize.TheVariants.{Unset}
 use Rattle.frames.specs.Bytes.{digits_only, bytes_upto, bytes_of, decoded_of}
 use Rattle.frames.specs.Frames.{settings_of, settings_frame, word_frame, count_frame, frame_of}
 use Rattle.frames.specs.Sequence.{step_of, end_of, read_all, input_of}
-use Rattle.frames.specs.Answers.{trained_of, answer_line, spelt_upto, token_line, count_line}
-use Rattle.frames.specs.declared.line.Decoded.TheVariants.{Bytes}
+use Rattle.frames.specs.Answers.{trained_of, fields_line, answer_line, spelt_upto, token_line, count_line}
 use Rattle.frames.specs.declared.input.Frame.TheVariants.{Settings as First, Word, Count}
-use Rattle.frames.specs.declared.sequence.Ended.TheVariants.{Whole}
 
 -- 010000000100000000001000000000000000023fe800000000000000020000
 abbrev pub first : List ℕ
@@ -54,35 +52,35 @@ tokens =
 abbrev pub asked : Settings
 asked = record {
   vocab_size = 1;
-  seed_size = Unset;
+  seed_size = None;
   max_piece_chars = 16;
   min_frequency = 2;
   shrink_factor = of_bits binary64 4604930618986332160;
   em_iterations = 2;
 }
 
-pub first_decoded : decoded_of first 265 ≡ Bytes 31
+pub first_decoded : decoded_of first 265 ≡ Some 31
 unfolding decoded_of digits_only value_of
 first_decoded = refl
 
-pub first_read : frame_of (bytes_of first) ≡ First asked 0
+pub first_read : frame_of (bytes_of first) ≡ Some (First asked 0)
 unfolding frame_of settings_frame settings_of bytes_upto value_of
 first_read = refl
 
-pub second_read : frame_of (bytes_of second) ≡ Word 1 10 1
+pub second_read : frame_of (bytes_of second) ≡ Some (Word 1 10 1)
 unfolding frame_of word_frame bytes_upto value_of
 second_read = refl
 
-pub third_read : frame_of (bytes_of third) ≡ Count 1
+pub third_read : frame_of (bytes_of third) ≡ Some (Count 1)
 unfolding frame_of count_frame bytes_upto value_of
 third_read = refl
 
-pub all_read : input_of (First asked 0 ∷ Word 1 10 1 ∷ Count 1 ∷ []) ≡ Whole
+pub all_read : input_of (Some (First asked 0) ∷ Some (Word 1 10 1) ∷ Some (Count 1) ∷ []) ≡ Ok tt
 unfolding input_of end_of read_all step_of
 all_read = refl
 
-pub answer_told : answer_line (trained_of 1 0 1 false) ≡ answer
-unfolding answer_line digits_of
+pub answer_told : answer_line (Ok (trained_of 1 0 1 false)) ≡ answer
+unfolding fields_line digits_of
 answer_told = refl
 
 -- the score of the one token is +0

@@ -5,23 +5,22 @@ use mathlib.Core.Path.{◌≡◌, refl}
 use mathlib.Core.List.{List, [], ◌∷◌, ◌++◌}
 use native.Mathlib.Omega.{arith}
 use lib.Dec.{eqb}
+use Rattle.std.specs.Prelude.{Option, None, Some, unwrap_or}
 use lib.ListN.{length, get_or}
 use Rattle.laws.proofs.Choices.{cond_cases}
 use Rattle.hexadecimal.specs.Digits.{value_of}
-use Rattle.hexadecimal.specs.declared.Nibble.{Nibble}
-use Rattle.hexadecimal.specs.declared.Nibble.TheVariants.{Value as Digit, Bad as NoDigit}
 use Rattle.hexadecimal.proofs.Valued.{digit_below}
-use Rattle.frames.specs.Bytes.{worth, nibble_of, byte_at, bytes_upto, bytes_of}
+use Rattle.frames.specs.Bytes.{nibble_of, byte_at, bytes_upto, bytes_of}
 use Rattle.frames.specs.Frames.{byte, number_at, seed_fits, settings_of, settings_frame, special_frame, word_frame, count_frame, frame_of}
-use Rattle.frames.specs.declared.input.Frame.TheVariants.{Settings as First, Special, Word, Count, Bad}
+use Rattle.frames.specs.declared.input.Frame.TheVariants.{Settings as First, Special, Word, Count}
 use Rattle.frames.proofs.Theorems.{Fits}
 
 nibble_below : (b : ℕ) → nibble_of b < 16
 nibble_below b = go (value_of b) refl
   where
-    go : (k : Nibble) → value_of b ≡ k → worth k < 16
-    go (Digit v) e = digit_below b e
-    go NoDigit e = omega arith
+    go : (k : Option ℕ) → value_of b ≡ k → unwrap_or k 0 < 16
+    go (Some v) e = digit_below b e
+    go None e = omega arith
 
 -- every number of a list is a byte
 abbrev Octets : List ℕ → Type 0
@@ -60,19 +59,19 @@ module _ (l : List ℕ) (o : Octets l) where
   unfolding settings_frame
   first_fits =
       cond_cases Fits (eqb (length l) 31) _ _
-      (λ _. cond_cases Fits (seed_fits (byte l 5) (number_at l 6 4)) (First (settings_of l) (number_at l 29 2)) Bad (λ _. tt) (λ _. tt)) (λ _. tt)
+      (λ _. cond_cases Fits (seed_fits (byte l 5) (number_at l 6 4)) (Some (First (settings_of l) (number_at l 29 2))) None (λ _. tt) (λ _. tt)) (λ _. tt)
 
   special_fits : Fits (special_frame l)
   unfolding special_frame
-  special_fits = cond_cases Fits (eqb (length l) (2 + byte l 1)) (Special 2 (byte l 1)) Bad (λ _. tt) (λ _. tt)
+  special_fits = cond_cases Fits (eqb (length l) (2 + byte l 1)) (Some (Special 2 (byte l 1))) None (λ _. tt) (λ _. tt)
 
   word_fits : Fits (word_frame l)
   unfolding word_frame
-  word_fits = cond_cases Fits (eqb (length l) (10 + byte l 9)) (Word (number_at l 1 8) 10 (byte l 9)) Bad (λ _. tt) (λ _. tt)
+  word_fits = cond_cases Fits (eqb (length l) (10 + byte l 9)) (Some (Word (number_at l 1 8) 10 (byte l 9))) None (λ _. tt) (λ _. tt)
 
   count_fits : Fits (count_frame l)
   unfolding count_frame
-  count_fits = cond_cases Fits (eqb (length l) 5) (Count (number_at l 1 4)) Bad (λ _. four_fit) (λ _. tt)
+  count_fits = cond_cases Fits (eqb (length l) 5) (Some (Count (number_at l 1 4))) None (λ _. four_fit) (λ _. tt)
 
 frame_fits : (l : List ℕ) → Octets l → Fits (frame_of l)
 unfolding frame_of

@@ -9,13 +9,12 @@ use native.Mathlib.Omega.{arith}
 use lib.Ieee.{Float, binary64, to_bits}
 use lib.ListN.{length, get_or, set, length-append}
 use lib.Seq.{sets, length-sets}
-use borrow.Author.Tests.{le-leb, lt-leb}
+use borrow.Author.Tests.{le-leb}
 use Rattle.hexadecimal.specs.Digits.{digits_of}
 use Rattle.hexadecimal.specs.Frames.{write_at}
-use Rattle.hexadecimal.specs.declared.Written.TheVariants.{Upto, NoRoom}
 use Rattle.hexadecimal.proofs.Writing.{length_digits}
-use Rattle.frames.specs.Answers.{Put, spelt_upto, spelt_of, answer_line, token_line, count_line, line_written, line_in, token_written, token_in}
-use Rattle.frames.specs.declared.output.Answer.{Answer}
+use Rattle.frames.specs.Answers.{Put, spelt_upto, spelt_of, fields_line, token_line, count_line, line_in, token_in}
+use Rattle.frames.specs.declared.output.Fields.{Fields}
 
 -- a run of stores after another
 after : (u v l : List ℕ) (i : ℕ) → sets (sets l i u) (i + length u) v ≡ sets l i (u ++ v)
@@ -44,6 +43,10 @@ put_digits out at n x h after e = record {
   same = e ∙ rw (le-leb (at + n) (length out) h);
   behind = ap (λ (k : ℕ). at + k) (sym (length_digits n x));
 }
+
+-- a number by another name
+pub put_same : {before out : List ℕ} {at next : ℕ} (n x y : ℕ) → x ≡ y → Put before at (digits_of n x) out next → Put before at (digits_of n y) out next
+put_same {before} {out} {at} {next} n x y e p = subst (λ (z : ℕ). Put before at (digits_of n z) out next) e p
 
 -- the end of a line
 pub put_end : (out : List ℕ) (at : ℕ) → Put out at (10 ∷ []) (set out at 10) (at + 1)
@@ -93,9 +96,9 @@ module _ {before : List ℕ} {at : ℕ} {text out : List ℕ} {next i : ℕ} (s 
   spelling_behind h = omega (arith, s.near, s.put.behind, length_spelt text i)
 
 -- how long the lines are
-pub length_answer : (a : Answer) → length (answer_line a) ≡ 35
-unfolding answer_line
-length_answer a =
+pub length_fields : (a : Fields) → length (fields_line a) ≡ 35
+unfolding fields_line
+length_fields a =
     simp (length-append, length_digits 2 17, length_digits 2 a.refusal, length_digits 8 a.place, length_digits 8 a.tokens, length_digits 4 a.specials, length_digits 8 a.required, length_digits 2 a.stop)
 
 pub length_token : (id : ℕ) (score : Float) (text : List ℕ) → length (token_line id score text) ≡ 29 + 2 * length text
@@ -106,71 +109,51 @@ pub length_count : (tokens : ℕ) → length (count_line tokens) ≡ 11
 unfolding count_line
 length_count tokens = simp (length-append, length_digits 2 19, length_digits 8 tokens)
 
--- a line with no room, and one in place
+-- a line in place, where there is room
 module _ (out : List ℕ) (at : ℕ) (line : List ℕ) (n : ℕ) (e : length line ≡ n) where
-  pub line_short : length out < at + n → (NoRoom ≡ line_written out at line) × (out ≡ line_in out at line)
-  unfolding line_written line_in
-  line_short h =
-      let l : length out < at + length line = omega arith in
-      (rw (lt-leb (at + length line) (length out) l), rw (lt-leb (at + length line) (length out) l))
-
-  pub line_put : at + n ≤ length out → (after : List ℕ) (next : ℕ) → Put out at line after next → (Upto next ≡ line_written out at line) × (after ≡ line_in out at line)
-  unfolding line_written line_in
+  pub line_put : at + n ≤ length out → (after : List ℕ) (next : ℕ) → Put out at line after next → after ≡ line_in out at line
+  unfolding line_in
   line_put h after next p =
       let l : at + length line ≤ length out = omega arith in
-      (rw (le-leb (at + length line) (length out) l) (ap Upto p.behind), rw (le-leb (at + length line) (length out) l) p.same)
-
--- a 12 is a line where its length is a u8
-module _ (out : List ℕ) (at id : ℕ) (score : Float) (text : List ℕ) where
-  pub token_long : 255 < length text → (NoRoom ≡ token_written out at id score text) × (out ≡ token_in out at id score text)
-  unfolding token_written token_in
-  token_long h = (rw (lt-leb (length text) 255 h), rw (lt-leb (length text) 255 h))
-
-  pub token_short : length text ≤ 255 → length out < at + (29 + 2 * length text) → (NoRoom ≡ token_written out at id score text) × (out ≡ token_in out at id score text)
-  unfolding token_written token_in
-  token_short g h = rw (le-leb (length text) 255 g) (line_short out at (token_line id score text) (29 + 2 * length text) (length_token id score text) h)
-
-  pub token_put : length text ≤ 255 → at + (29 + 2 * length text) ≤ length out → (after : List ℕ) (next : ℕ) → Put out at (token_line id score text) after next → (Upto next ≡ token_written out at id score text) × (after ≡ token_in out at id score text)
-  unfolding token_written token_in
-  token_put g h after next p = rw (le-leb (length text) 255 g) (line_put out at (token_line id score text) (29 + 2 * length text) (length_token id score text) h after next p)
+      rw (le-leb (at + length line) (length out) l) p.same
 
 -- a whole line, number after number
 pub count_put : (out : List ℕ) (at tokens : ℕ) → at + 11 ≤ length out → (o1 o2 : List ℕ) (n1 n2 : ℕ) → Put out at (digits_of 2 19) o1 n1
     → Put o1 n1 (digits_of 8 tokens) o2 n2
-    → (Upto (n2 + 1) ≡ line_written out at (count_line tokens)) × (set o2 n2 10 ≡ line_in out at (count_line tokens))
+    → set o2 n2 10 ≡ line_in out at (count_line tokens)
 unfolding count_line
 count_put out at tokens h o1 o2 n1 n2 p q =
     line_put out at (count_line tokens) 11 (length_count tokens) h (set o2 n2 10) (n2 + 1)
     (put_more (digits_of 2 19 ++ digits_of 8 tokens) (10 ∷ []) (put_more (digits_of 2 19) (digits_of 8 tokens) p q) (put_end o2 n2))
 
-pub answer_put : (out : List ℕ) (at : ℕ) (a : Answer) → at + 35 ≤ length out → (o1 o2 o3 o4 o5 o6 o7 : List ℕ) (n1 n2 n3 n4 n5 n6 n7 : ℕ)
+pub fields_put : (out : List ℕ) (at : ℕ) (a : Fields) → at + 35 ≤ length out → (o1 o2 o3 o4 o5 o6 o7 : List ℕ) (n1 n2 n3 n4 n5 n6 n7 : ℕ)
     → Put out at (digits_of 2 17) o1 n1 → Put o1 n1 (digits_of 2 a.refusal) o2 n2 → Put o2 n2 (digits_of 8 a.place) o3 n3
     → Put o3 n3 (digits_of 8 a.tokens) o4 n4 → Put o4 n4 (digits_of 4 a.specials) o5 n5 → Put o5 n5 (digits_of 8 a.required) o6 n6
     → Put o6 n6 (digits_of 2 a.stop) o7 n7
-    → (Upto (n7 + 1) ≡ line_written out at (answer_line a)) × (set o7 n7 10 ≡ line_in out at (answer_line a))
-unfolding answer_line
-answer_put out at a h o1 o2 o3 o4 o5 o6 o7 n1 n2 n3 n4 n5 n6 n7 p1 p2 p3 p4 p5 p6 p7 =
+    → set o7 n7 10 ≡ line_in out at (fields_line a)
+unfolding fields_line
+fields_put out at a h o1 o2 o3 o4 o5 o6 o7 n1 n2 n3 n4 n5 n6 n7 p1 p2 p3 p4 p5 p6 p7 =
     let u2 = put_more (digits_of 2 17) (digits_of 2 a.refusal) p1 p2 in
     let u3 = put_more (digits_of 2 17 ++ digits_of 2 a.refusal) (digits_of 8 a.place) u2 p3 in
     let u4 = put_more (digits_of 2 17 ++ digits_of 2 a.refusal ++ digits_of 8 a.place) (digits_of 8 a.tokens) u3 p4 in
     let u5 = put_more (digits_of 2 17 ++ digits_of 2 a.refusal ++ digits_of 8 a.place ++ digits_of 8 a.tokens) (digits_of 4 a.specials) u4 p5 in
     let u6 = put_more (digits_of 2 17 ++ digits_of 2 a.refusal ++ digits_of 8 a.place ++ digits_of 8 a.tokens ++ digits_of 4 a.specials) (digits_of 8 a.required) u5 p6 in
     let u7 = put_more (digits_of 2 17 ++ digits_of 2 a.refusal ++ digits_of 8 a.place ++ digits_of 8 a.tokens ++ digits_of 4 a.specials ++ digits_of 8 a.required) (digits_of 2 a.stop) u6 p7 in
-    line_put out at (answer_line a) 35 (length_answer a) h (set o7 n7 10) (n7 + 1)
+    line_put out at (fields_line a) 35 (length_fields a) h (set o7 n7 10) (n7 + 1)
     (put_more (digits_of 2 17 ++ digits_of 2 a.refusal ++ digits_of 8 a.place ++ digits_of 8 a.tokens ++ digits_of 4 a.specials ++ digits_of 8 a.required ++ digits_of 2 a.stop) (10 ∷ []) u7 (put_end o7 n7))
 
 pub token_puts : (out : List ℕ) (at id : ℕ) (score : Float) (text : List ℕ) → length text ≤ 255 → at + (29 + 2 * length text) ≤ length out
-    → (bits : ℕ) → bits ≡ to_bits binary64 score → (o1 o2 o3 o4 o5 : List ℕ) (n1 n2 n3 n4 n5 : ℕ)
-    → Put out at (digits_of 2 18) o1 n1 → Put o1 n1 (digits_of 8 id) o2 n2 → Put o2 n2 (digits_of 16 bits) o3 n3
+    → (o1 o2 o3 o4 o5 : List ℕ) (n1 n2 n3 n4 n5 : ℕ)
+    → Put out at (digits_of 2 18) o1 n1 → Put o1 n1 (digits_of 8 id) o2 n2 → Put o2 n2 (digits_of 16 (to_bits binary64 score)) o3 n3
     → Put o3 n3 (digits_of 2 (length text)) o4 n4 → Put o4 n4 (spelt_of text) o5 n5
-    → (Upto (n5 + 1) ≡ token_written out at id score text) × (set o5 n5 10 ≡ token_in out at id score text)
-unfolding token_line
-token_puts out at id score text g h bits e o1 o2 o3 o4 o5 n1 n2 n3 n4 n5 p1 p2 p3 p4 p5 =
+    → set o5 n5 10 ≡ token_in out at id score text
+unfolding token_line token_in
+token_puts out at id score text g h o1 o2 o3 o4 o5 n1 n2 n3 n4 n5 p1 p2 p3 p4 p5 =
     let s = to_bits binary64 score in
-    let q3 : Put o2 n2 (digits_of 16 s) o3 n3 = subst (λ (b : ℕ). Put o2 n2 (digits_of 16 b) o3 n3) e p3 in
     let u2 = put_more (digits_of 2 18) (digits_of 8 id) p1 p2 in
-    let u3 = put_more (digits_of 2 18 ++ digits_of 8 id) (digits_of 16 s) u2 q3 in
+    let u3 = put_more (digits_of 2 18 ++ digits_of 8 id) (digits_of 16 s) u2 p3 in
     let u4 = put_more (digits_of 2 18 ++ digits_of 8 id ++ digits_of 16 s) (digits_of 2 (length text)) u3 p4 in
     let u5 = put_more (digits_of 2 18 ++ digits_of 8 id ++ digits_of 16 s ++ digits_of 2 (length text)) (spelt_of text) u4 p5 in
-    token_put out at id score text g h (set o5 n5 10) (n5 + 1)
-    (put_more (digits_of 2 18 ++ digits_of 8 id ++ digits_of 16 s ++ digits_of 2 (length text) ++ spelt_of text) (10 ∷ []) u5 (put_end o5 n5))
+    rw (le-leb (length text) 255 g)
+    (line_put out at (token_line id score text) (29 + 2 * length text) (length_token id score text) h (set o5 n5 10) (n5 + 1)
+    (put_more (digits_of 2 18 ++ digits_of 8 id ++ digits_of 16 s ++ digits_of 2 (length text) ++ spelt_of text) (10 ∷ []) u5 (put_end o5 n5)))

@@ -1,26 +1,14 @@
 -- A line's digits and the bytes that they are: document 01, "Lower-case hexadecimal". Definitions only.
-use Rattle.std.specs.Prelude.{ℕ, zero, suc, ◌+◌, ◌*◌, ◌/◌, ◌%◌, Bool, true, false, cond, List, [], ◌∷◌, ◌++◌, leb, eqb, length, drop, get_or}
+use Rattle.std.specs.Prelude.{ℕ, zero, suc, ◌+◌, ◌*◌, ◌/◌, ◌%◌, Bool, true, false, cond, List, [], ◌∷◌, ◌++◌, leb, eqb, length, drop, get_or, Option, None, Some, is_some, unwrap_or}
 use Rattle.hexadecimal.specs.Digits.{value_of}
-use Rattle.hexadecimal.specs.declared.Nibble.{Nibble}
-use Rattle.hexadecimal.specs.declared.Nibble.TheVariants.{Value as Digit, Bad as NoDigit}
-use Rattle.frames.specs.declared.line.Decoded.{Decoded}
-use Rattle.frames.specs.declared.line.Decoded.TheVariants.{Bytes, Bad}
-
-abbrev pub found : Nibble → Bool
-found (Digit v) = true
-found NoDigit = false
 
 -- a byte is a digit: 30 to 39, or 61 to 66; no upper case, no space, no CR
 abbrev pub is_digit : ℕ → Bool
-is_digit b = found (value_of b)
-
-abbrev pub worth : Nibble → ℕ
-worth (Digit v) = v
-worth NoDigit = 0
+is_digit b = is_some (value_of b)
 
 -- the number of a digit, and 0 for what is none
 abbrev pub nibble_of : ℕ → ℕ
-nibble_of b = worth (value_of b)
+nibble_of b = unwrap_or (value_of b) 0
 
 -- a line is all digits
 unfoldable pub digits_only : List ℕ → Bool
@@ -45,8 +33,8 @@ abbrev pub decodes : List ℕ → ℕ → Bool
 decodes line size = cond (eqb (length line % 2) 0) (cond (leb (length line / 2) size) (digits_only line) false) false
 
 -- how many bytes a line is
-unfoldable pub decoded_of : List ℕ → ℕ → Decoded
-decoded_of line size = cond (decodes line size) (Bytes (length line / 2)) Bad
+unfoldable pub decoded_of : List ℕ → ℕ → Option ℕ
+decoded_of line size = cond (decodes line size) (Some (length line / 2)) None
 
 -- what is lent then: the bytes of the line, and behind them what stood there; or all as it was
 unfoldable pub decoded_in : List ℕ → List ℕ → List ℕ

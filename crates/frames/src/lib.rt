@@ -2,7 +2,7 @@
 //
 // A line is digits; `decode` makes them bytes, `read` makes those a frame, and `step` says whether that frame may stand where it
 // does. The answer goes out by `write_answer`, `write_token` and `write_count`. All are total, and what breaks the rules is a
-// case of an enum: it is the program that turns it into BadFrame. Nothing here reads or writes a file, so each promise is one
+// None or an Err: it is the program that turns it into BadFrame. Nothing here reads or writes a file, so each promise is one
 // equation with a definition of specs/, which are the document's sentences over lists of bytes.
 #![tactic(auto)]
 
@@ -12,6 +12,8 @@ mod output;
 mod sequence;
 
 pub use input::{Frame, read};
-pub use line::{Decoded, decode};
-pub use output::{Answer, refused, trained, write_answer, write_count, write_token};
-pub use sequence::{Awaited, Ended, Reading, begun, finish, step};
+pub use line::decode;
+pub use output::{
+    Fields, Summary, refused, trained, write_answer, write_count, write_fields, write_token,
+};
+pub use sequence::{Awaited, Reading, begun, finish, step};

@@ -4,14 +4,22 @@
 // A frame goes into a lent slice at a position, whole or not at all, with the 0a that ends its line.
 ghost use Rattle.std.specs.Prelude.{◌≡◌, ◌+◌, ◌*◌, ◌≤◌, ◌<◌, length};
 ghost use Rattle.hexadecimal.specs.Digits.{digits_of};
-ghost use Rattle.frames.specs.Answers.{Put, clamped, stop_of, refused_of, trained_of, spelt_of, answer_line, token_line, count_line, line_written, line_in, token_written, token_in};
+ghost use Rattle.frames.specs.Answers.{Put, clamped, trained_of, refused_of, fields_of, spelt_of, fields_line, answer_line, token_line, count_line, line_written, line_in, token_written, token_in};
 
-use hexadecimal::Written;
 use refusal::Refusal;
 
-// The fields of an 11.
-#[derive(Clone, Copy)]
-pub struct Answer {
+// What an 11 says of a training.
+#[derive(Clone, Copy, Debug, PartialEq, Eq)]
+pub struct Summary {
+    pub tokens: u32,
+    pub specials: u16,
+    pub required: u32,
+    pub stalled: bool,
+}
+
+// The numbers of an 11, each as wide as it is there.
+#[derive(Clone, Copy, Debug, PartialEq, Eq)]
+pub struct Fields {
     pub refusal: u8,
     pub place: u32,
     pub tokens: u32,
@@ -24,34 +32,33 @@ pub struct Answer {
 fn narrow(x: u64) -> u32
     ensures { result ≡ clamped 4294967295 x }
 {
-    if 4294967295 < x {
-        return 4294967295;
-    }
-    x as u32
+    x.min(u64::from(u32::MAX)) as u32
 }
 
 // A number in 16 bits, or the widest.
 fn narrower(x: usize) -> u16
     ensures { result ≡ clamped 65535 x }
 {
-    if 65535 < x {
-        return 65535;
-    }
-    x as u16
+    x.min(usize::from(u16::MAX)) as u16
 }
 
-// "stop u8 (0 target, 1 stalled)"
-fn stop(stalled: bool) -> u8
-    ensures { result ≡ stop_of stalled }
+// What is said of a training: so many tokens, of which so many are specials and so many are required, and why it stopped.
+pub fn trained(tokens: usize, specials: usize, required: usize, stalled: bool) -> Summary
+    ensures { result ≡ trained_of tokens specials required stalled }
 {
-    if stalled { 1 } else { 0 }
+    Summary {
+        tokens: narrow(tokens as u64),
+        specials: narrower(specials),
+        required: narrow(required as u64),
+        stalled,
+    }
 }
 
-// The answer that a refusal is.
-pub fn refused(r: Refusal) -> Answer
+// The 11 of a refusal: "A refusal writes 11 with zeros after the place".
+pub fn refused(r: Refusal) -> Fields
     ensures { result ≡ refused_of r }
 {
-    Answer {
+    Fields {
         refusal: refusal::number(r),
         place: narrow(refusal::place(r)),
         tokens: 0,
@@ -61,17 +68,20 @@ pub fn refused(r: Refusal) -> Answer
     }
 }
 
-// The answer of a training: so many tokens, of which so many are specials and so many are required, and why it stopped.
-pub fn trained(tokens: usize, specials: usize, required: usize, stalled: bool) -> Answer
-    ensures { result ≡ trained_of tokens specials required stalled }
+// The 11 of an answer: "stop u8 (0 target, 1 stalled)".
+fn to_fields(answer: Result<Summary, Refusal>) -> Fields
+    ensures { result ≡ fields_of answer }
 {
-    Answer {
-        refusal: 0,
-        place: 0,
-        tokens: narrow(tokens as u64),
-        specials: narrower(specials),
-        required: narrow(required as u64),
-        stop: stop(stalled),
+    match answer {
+        Ok(summary) => Fields {
+            refusal: 0,
+            place: 0,
+            tokens: summary.tokens,
+            specials: summary.specials,
+            required: summary.required,
+            stop: u8::from(summary.stalled),
+        },
+        Err(r) => refused(r),
     }
 }
 
@@ -85,86 +95,77 @@ fn put(out: &mut [u8], at: usize, digits: usize, x: u64) -> usize
     at + digits
 }
 
-// The same byte, in 64 bits.
-fn octet(v: u8) -> u64
-    ensures { result ≡ v }
-{
-    v as u64
-}
-
 // Writes the digits of a text's bytes.
+#[tactic(auto, using(crate::proofs::Lines::spelling_room, crate::proofs::Lines::spelling_end, crate::proofs::Lines::spelling_behind))]
 fn put_text(out: &mut [u8], at: usize, text: &[u8]) -> usize
     requires { at + 2 * length text.now ≤ length out.old }
     ensures put { Put out.old at (spelt_of text.now) out.new result }
     ensures value { result ≡ at + 2 * length text.now }
 {
     let mut next = at;
-    let mut i: usize = 0;
-    while i < text.len() {
-        next = put(out, next, 2, octet(text[i]));
-        i += 1;
+    for &b in text {
+        next = put(out, next, 2, u64::from(b));
     }
     next
 }
 
-// Writes an 11.
-pub fn write_answer(out: &mut [u8], at: usize, answer: Answer) -> Written
+// Writes an 11 of any numbers.
+#[tactic(auto, using(crate::proofs::Lines::length_fields), unfolding(crate::specs::Answers::line_written, crate::specs::Answers::line_in))]
+pub fn write_fields(out: &mut [u8], at: usize, fields: Fields) -> Option<usize>
+    ensures value { result ≡ line_written out.old at (fields_line fields) }
+    ensures out_after { out.new ≡ line_in out.old at (fields_line fields) }
+{
+    if out.len() < at || out.len() - at < 35 {
+        return None;
+    }
+    let a = put(out, at, 2, 0x11);
+    let b = put(out, a, 2, u64::from(fields.refusal));
+    let c = put(out, b, 8, u64::from(fields.place));
+    let d = put(out, c, 8, u64::from(fields.tokens));
+    let e = put(out, d, 4, u64::from(fields.specials));
+    let f = put(out, e, 8, u64::from(fields.required));
+    let g = put(out, f, 2, u64::from(fields.stop));
+    out[g] = 10;
+    Some(g + 1)
+}
+
+// Writes the 11 of an answer.
+pub fn write_answer(out: &mut [u8], at: usize, answer: Result<Summary, Refusal>) -> Option<usize>
     ensures value { result ≡ line_written out.old at (answer_line answer) }
     ensures out_after { out.new ≡ line_in out.old at (answer_line answer) }
 {
-    if out.len() < at {
-        return Written::NoRoom;
-    }
-    if out.len() - at < 35 {
-        return Written::NoRoom;
-    }
-    let a = put(out, at, 2, 0x11);
-    let b = put(out, a, 2, answer.refusal as u64);
-    let c = put(out, b, 8, answer.place as u64);
-    let d = put(out, c, 8, answer.tokens as u64);
-    let e = put(out, d, 4, answer.specials as u64);
-    let f = put(out, e, 8, answer.required as u64);
-    let g = put(out, f, 2, answer.stop as u64);
-    out[g] = 10;
-    Written::Upto(g + 1)
+    write_fields(out, at, to_fields(answer))
 }
 
 // Writes a 12. No token has more bytes than a u8 can say: for one that had, there would be no room.
-pub fn write_token(out: &mut [u8], at: usize, id: u32, score: f64, text: &[u8]) -> Written
+#[tactic(auto, using(crate::proofs::Lines::length_token), unfolding(crate::specs::Answers::token_written, crate::specs::Answers::token_in, crate::specs::Answers::line_written, crate::specs::Answers::line_in))]
+pub fn write_token(out: &mut [u8], at: usize, id: u32, score: f64, text: &[u8]) -> Option<usize>
     ensures value { result ≡ token_written out.old at id score text.now }
     ensures out_after { out.new ≡ token_in out.old at id score text.now }
 {
-    if 255 < text.len() {
-        return Written::NoRoom;
-    }
-    if out.len() < at {
-        return Written::NoRoom;
-    }
-    if out.len() - at < 29 + 2 * text.len() {
-        return Written::NoRoom;
+    if 255 < text.len() || out.len() < at || out.len() - at < 29 + 2 * text.len() {
+        return None;
     }
     let a = put(out, at, 2, 0x12);
-    let b = put(out, a, 8, id as u64);
+    let b = put(out, a, 8, u64::from(id));
     let c = put(out, b, 16, math::bits(score));
     let d = put(out, c, 2, text.len() as u64);
     let e = put_text(out, d, text);
     out[e] = 10;
-    Written::Upto(e + 1)
+    Some(e + 1)
 }
 
 // Writes a 13.
-pub fn write_count(out: &mut [u8], at: usize, tokens: u32) -> Written
+#[tactic(auto, using(crate::proofs::Lines::length_count), unfolding(crate::specs::Answers::line_written, crate::specs::Answers::line_in))]
+pub fn write_count(out: &mut [u8], at: usize, tokens: u32) -> Option<usize>
     ensures value { result ≡ line_written out.old at (count_line tokens) }
     ensures out_after { out.new ≡ line_in out.old at (count_line tokens) }
 {
-    if out.len() < at {
-        return Written::NoRoom;
-    }
-    if out.len() - at < 11 {
-        return Written::NoRoom;
+    if out.len() < at || out.len() - at < 11 {
+        return None;
     }
     let a = put(out, at, 2, 0x13);
-    let b = put(out, a, 8, tokens as u64);
+    let b = put(out, a, 8, u64::from(tokens));
     out[b] = 10;
-    Written::Upto(b + 1)
+    Some(b + 1)
 }

@@ -1,17 +1,15 @@
 -- The steps of a build: the room, the trie, the cache. Assumes nothing.
+use Rattle.std.specs.Prelude.{Option, Some, None, Result, Ok, Err, ok_or}
 use mathlib.Core.Path.{◌≡◌, refl, sym, ap, ◌∙◌, subst}
 use mathlib.Core.Bool.{Bool, true, false}
 use mathlib.Core.List.{List, ◌++◌}
 use Prim.Native.Nat.{ℕ, ◌+◌, ◌*◌, ◌/◌, ◌≤◌, ◌<◌}
 use native.Mathlib.Nat.{le_trans}
 use native.Mathlib.Omega.{arith}
-use lib.Dec.{leb}
 use lib.ListN.{length, take, drop, length-map}
 use lib.Seq.{length-take-le, take_at}
-use borrow.Author.Tests.{leb-true, leb-false}
 use Rattle.laws.specs.Tests.{Says}
 use Rattle.laws.proofs.Tests.{said_yes, said_no}
-use Rattle.laws.proofs.Choices.{cond_cases}
 use Rattle.refusal.specs.declared.Refusal.{Refusal}
 use Rattle.refusal.specs.declared.Refusal.TheVariants.{NoRoom}
 use Rattle.spans.specs.Spans.{many, chars_at, first}
@@ -23,7 +21,6 @@ use Rattle.retain.proofs.Held.{same_many}
 use Rattle.trie.specs.Prefixes.{prefixes_of}
 use Rattle.trie.specs.Listed.{newest}
 use Rattle.trie.specs.Index.{Index, Indexes}
-use Rattle.trie.specs.declared.Indexed.{Indexed}
 use Rattle.trie.proofs.Indexing.{indexing_good}
 use Rattle.trie.proofs.Same.{length_first}
 use Rattle.trie.proofs.Theorems.{index_room}
@@ -34,8 +31,6 @@ use Rattle.builder.proofs.Words.{many_edges}
 use Rattle.fresh.specs.Slots.{Room, Cleared}
 use Rattle.fresh.specs.Build.{Lent, Results, smaller, TrieRoom, afresh, CacheRoom, Ordered, Why, no_trie, no_cache, Unchanged, Answers}
 use Rattle.fresh.specs.Steps.{Short, bytes_of, Ample, Laying, Enough, LaysTo, Lays, Front, Fronted, Follows}
-use Rattle.fresh.specs.declared.Built.{Built}
-use Rattle.fresh.specs.declared.Built.TheVariants.{Edges, Refused}
 use Rattle.fresh.proofs.Most.{edges_few, ends_few}
 use Rattle.fresh.proofs.Filled.{written_room, written_holds}
 
@@ -45,11 +40,7 @@ pub record Smaller (a b m : ℕ) : Type 0 where
   pub right : m ≤ b
 
 pub smaller_is : (a b : ℕ) {m : ℕ} → m ≡ smaller a b → Smaller a b m
-smaller_is a b e =
-    subst (Smaller a b) (sym e)
-    (cond_cases (Smaller a b) (leb a b) a b
-    (λ t. let l = leb-true a b t in record { left = omega arith; right = omega arith })
-    (λ t. let l = leb-false a b t in record { left = omega arith; right = omega arith }))
+smaller_is a b e = record { left = omega arith; right = omega arith }
 
 pub unchanged : (y : Results) → Unchanged y y
 unchanged y = record { offsets_kept = refl; starts_kept = refl; ids_kept = refl; spans_kept = refl }
@@ -132,7 +123,7 @@ module _ {keys ends text words : List ℕ} {setting : ℕ} (l : Laying keys ends
   walk_room a b = record { few = l.few; level = l.level; narrow = l.narrow; room = a; wide = b }
 
   module _ (y : Results) (r : Bool) (enough : Enough keys ends text words setting y r) where
-    pub lay_refused : {refusal : Refusal} → refusal ≡ NoRoom 3 → r ≡ false → Lays keys ends text words setting y y (Refused refusal)
+    pub lay_refused : {refusal : Refusal} → refusal ≡ NoRoom 3 → r ≡ false → Lays keys ends text words setting y y (Err refusal)
     lay_refused e n f count t = (e, said_no r n (enough f count t), unchanged y)
 
     module _ (yes : r ≡ true) where
@@ -151,7 +142,7 @@ module _ {keys ends text words : List ℕ} {setting : ℕ} (l : Laying keys ends
             written_room (all setting (first l.f l.count) text words) y.offsets y.starts y.ids y.spans (many words) b.0 b.1.ends_are (spans_many setting (first l.f l.count) text words)
 
         pub lay_laid : (y' : Results) → length o ≡ length y.offsets → length s ≡ length y.starts → length i ≡ length y.ids → length p ≡ length y.spans
-            → Cleared o s i p end.ends end.edges (many words) y'.offsets y'.starts y'.ids y'.spans → Lays keys ends text words setting y y' (Edges end.edges)
+            → Cleared o s i p end.ends end.edges (many words) y'.offsets y'.starts y'.ids y'.spans → Lays keys ends text words setting y y' (Ok end.edges)
         lay_laid y' lo ls li lp clear f count t =
             let b = builds f count t in
             (said_yes r yes (enough f count t), written_holds (all setting (first f count) text words) y.offsets y.starts y.ids y.spans (many words) b.0 b.1.ends_are (spans_many setting (first f count) text words) lo ls li lp clear)
@@ -160,7 +151,7 @@ module _ {keys ends text words : List ℕ} {setting : ℕ} (l : Laying keys ends
 front_taken : (places : ℕ) (l front : List ℕ) → places ≤ length l → length front ≡ length (take places l) → take places (front ++ drop places l) ≡ front
 front_taken places l front h e = take_at front (drop places l) places (e ∙ length-take-le places l h)
 
-pub fronted : {keys ends spellings pieces : List ℕ} {places : ℕ} → Front keys ends places spellings pieces → (keys' ends' : List ℕ) (r : Indexed)
+pub fronted : {keys ends spellings pieces : List ℕ} {places : ℕ} → Front keys ends places spellings pieces → (keys' ends' : List ℕ) (r : Option ℕ)
     → length keys' ≡ length (take places keys) → length ends' ≡ length (take places ends) → Indexes spellings pieces (take places keys) keys' ends' r
     → Fronted keys places spellings pieces (keys' ++ drop places keys) (ends' ++ drop places ends) r
 fronted {keys} {ends} {spellings} {pieces} {places} f keys' ends' r a b i =
@@ -168,6 +159,15 @@ fronted {keys} {ends} {spellings} {pieces} {places} f keys' ends' r a b i =
     (subst (λ (e : List ℕ). Indexes spellings pieces (take places keys) keys' e r) (sym (front_taken places ends ends' f.in_ends b)) i)
 
 -- ---- `index_and_lay`
+-- what the trie answered, by what became of it
+pub placed : (o : Option ℕ) (n : ℕ) → ◌≡◌ {A = Result ℕ Refusal} (Ok n) (ok_or o (NoRoom 2)) → o ≡ Some n
+placed (Some m) n e = cc
+placed None n e = let z : ◌≡◌ {A = ℕ} 0 1 = cc in absurd (omega arith)
+
+pub unplaced : (o : Option ℕ) (refusal : Refusal) → ◌≡◌ {A = Result ℕ Refusal} (Err refusal) (ok_or o (NoRoom 2)) → (o ≡ None) × (refusal ≡ NoRoom 2)
+unplaced (Some m) refusal e = let z : ◌≡◌ {A = ℕ} 0 1 = cc in absurd (omega arith)
+unplaced None refusal e = (refl, cc)
+
 module _ (x : Lent) (y : Results) (keys ends : List ℕ) {places : ℕ} (e : places ≡ smaller (smaller (length keys) (length ends)) 4294967295) where
   in_both : (places ≤ length keys) × (places ≤ length ends) × (places ≤ 4294967295)
   in_both =
@@ -211,16 +211,16 @@ module _ (x : Lent) (y : Results) (keys ends : List ℕ) {places : ℕ} (e : pla
     room_of : {n : ℕ} → Index x.spellings x.pieces (take places keys) (take places keys') (take places ends') n → (table : List ℕ) → TrieRoom x (record { keys = keys; ends = ends; table = table })
     room_of i table = subst (λ (m : ℕ). length (prefixes_of (newest x.spellings x.pieces)) + 1 ≤ m / 2) (long_keys ∙ e) (index_room i)
 
-    pub follows : {n : ℕ} (y' : Results) (r : Built) → Index x.spellings x.pieces (take places keys) (take places keys') (take places ends') n
+    pub follows : {n : ℕ} (y' : Results) (r : Result ℕ Refusal) → Index x.spellings x.pieces (take places keys) (take places keys') (take places ends') n
         → Lays (take places keys') (take places ends') x.text x.words x.setting y y' r → Follows x y keys ends y' r
     follows y' r i lays table o = go r (lays (chars_at x.spellings x.pieces) (many x.pieces) i.trie)
       where
-        go : (r : Built) → LaysTo (afresh x) y y' r → Answers x y (record { keys = keys; ends = ends; table = table }) y' r
-        go (Edges count) (room, fresh) = record { in_order = o; trie_room = room_of i table; cache_room = room; fresh = fresh }
-        go (Refused refusal) (p, n, kept) = (subst (Why x y (record { keys = keys; ends = ends; table = table })) (sym p) (no_cache o (room_of i table) n), kept)
+        go : (r : Result ℕ Refusal) → LaysTo (afresh x) y y' r → Answers x y (record { keys = keys; ends = ends; table = table }) y' r
+        go (Ok count) (room, fresh) = record { in_order = o; trie_room = room_of i table; cache_room = room; fresh = fresh }
+        go (Err refusal) (p, n, kept) = (subst (Why x y (record { keys = keys; ends = ends; table = table })) (sym p) (no_cache o (room_of i table) n), kept)
 
-  pub no_places : {refusal : Refusal} (keys' ends' : List ℕ) {r : Indexed} → refusal ≡ NoRoom 2 → r ≡ Rattle.trie.specs.declared.Indexed.TheVariants.NoRoom → Fronted keys places x.spellings x.pieces keys' ends' r
-      → Follows x y keys ends y (Refused refusal)
+  pub no_places : {refusal : Refusal} (keys' ends' : List ℕ) {r : Option ℕ} → refusal ≡ NoRoom 2 → r ≡ None → Fronted keys places x.spellings x.pieces keys' ends' r
+      → Follows x y keys ends y (Err refusal)
   no_places keys' ends' p q i table o =
       let h = subst (Fronted keys places x.spellings x.pieces keys' ends') q i in
       let k = long_keys ∙ e in

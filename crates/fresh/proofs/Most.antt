@@ -1,12 +1,11 @@
 -- At most so many edges and offsets: a character has a byte or more, and ends at most as many edges as the length setting. Assumes nothing.
-use mathlib.Core.Path.{◌≡◌, refl, sym, ap, ◌∙◌}
+use mathlib.Core.Path.{◌≡◌, ap}
 use mathlib.Core.Bool.{cond}
 use mathlib.Core.List.{List, []}
 use mathlib.Core.Option.{Option, none}
 use Prim.Native.Nat.{ℕ, zero, suc, ◌+◌, ◌*◌, ◌-◌, ◌≤◌, ◌<◌}
 use native.Mathlib.Decide.{dec_lt}
 use native.Mathlib.Nat.{le_refl, le_trans, mul-suc, mul-add, mul-le-mul_left, mul-le-mul}
-use native.Mathlib.Numerals.{add-one}
 use native.Mathlib.Omega.{arith}
 use lib.ListN.{length, drop, length-append, length-take}
 use borrow.Author.Tests.{lt-leb}
@@ -85,24 +84,6 @@ module _ (setting : ℕ) (pieces : List (List ℕ)) (text words : List ℕ) wher
 bytes_few : {words : List ℕ} → Short words → (k : ℕ) → k ≤ many words → bytes_of words k ≤ 255 * k
 bytes_few s zero h = omega arith
 bytes_few s (suc k) h = let a = bytes_few s k (omega arith) in let b = s.short k (omega arith) in omega arith
-
--- the loop of `all_bytes`
-pub record Summed (words : List ℕ) (k sum : ℕ) : Type 0 where
-  pub near : k ≤ many words
-  pub is : sum ≡ bytes_of words k
-
-pub summed_none : (words : List ℕ) → Summed words 0 0
-summed_none words = record { near = omega arith; is = refl }
-
-module _ {words : List ℕ} (s : Short words) {k sum : ℕ} (p : Summed words k sum) where
-  pub summed_few : sum ≤ 4177920
-  summed_few = let a = p.near in let b = p.is in let c = s.few in let d = bytes_few s k p.near in omega arith
-
-  pub summed_more : {more : ℕ} → more ≡ bytes words k → k < many words → Summed words (k + 1) (sum + more)
-  summed_more {more} e h = let b = p.is in let d : sum + more ≡ bytes_of words (suc k) = omega arith in record { near = omega arith; is = d ∙ ap (bytes_of words) (sym (add-one k)) }
-
-  pub summed_all : many words ≤ k → sum ≡ bytes_of words (many words)
-  summed_all h = let n = p.near in let e : k ≡ many words = omega arith in p.is ∙ ap (bytes_of words) e
 
 -- ---- what `ample` asks for has 64 bits
 pub small : {words : List ℕ} {sum : ℕ} → Short words → sum ≡ bytes_of words (many words) → sum ≤ 4177920

@@ -1,5 +1,5 @@
 -- What a build is lent, when it is refused, and what it leaves. Definitions only.
-use Rattle.std.specs.Prelude.{◌≡◌, cond, List, ℕ, ◌+◌, ◌/◌, ◌≤◌, leb, length, replicate}
+use Rattle.std.specs.Prelude.{◌≡◌, List, ℕ, ◌+◌, ◌/◌, ◌≤◌, min, length, replicate, Result, Ok, Err}
 use Rattle.refusal.specs.declared.Refusal.{Refusal}
 use Rattle.refusal.specs.declared.Refusal.TheVariants.{NoRoom}
 use Rattle.spans.specs.Spans.{listed}
@@ -9,8 +9,6 @@ use Rattle.trie.specs.Prefixes.{prefixes_of}
 use Rattle.trie.specs.Listed.{newest}
 use Rattle.inputs.specs.Inputs.{InOrder, Why as NotInOrder}
 use Rattle.fresh.specs.Slots.{Holds, Kept}
-use Rattle.fresh.specs.declared.Built.{Built}
-use Rattle.fresh.specs.declared.Built.TheVariants.{Edges, Refused}
 
 -- what is lent: the length setting, the words and their text, the pieces and theirs; and the slices
 pub record Lent : Type 0 where
@@ -33,7 +31,7 @@ pub record Work : Type 0 where
 
 -- the smaller of two numbers
 abbrev pub smaller : ℕ → ℕ → ℕ
-smaller a b = cond (leb a b) a b
+smaller a b = min a b
 
 -- "the lent trie places": as many as both slices have, and as a node's number of 32 bits can name
 abbrev pub places : Work → ℕ
@@ -77,9 +75,9 @@ pub record Accepted (x : Lent) (y : Results) (w : Work) (y' : Results) (count : 
   pub cache_room : CacheRoom (afresh x) y
   pub fresh : Fresh (afresh x) y y' count
 
-abbrev pub Answers : Lent → Results → Work → Results → Built → Type 0
-Answers x y w y' (Edges count) = Accepted x y w y' count
-Answers x y w y' (Refused refusal) = Why x y w refusal × Unchanged y y'
+abbrev pub Answers : Lent → Results → Work → Results → Result ℕ Refusal → Type 0
+Answers x y w y' (Ok count) = Accepted x y w y' count
+Answers x y w y' (Err refusal) = Why x y w refusal × Unchanged y y'
 
 -- "Work slices hold zeros after every call, accepted or refused"
 pub record Zeros (w w' : Work) : Type 0 where

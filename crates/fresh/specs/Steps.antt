@@ -1,16 +1,14 @@
 -- What the steps of a build ask and promise. Definitions only.
-use Rattle.std.specs.Prelude.{◌≡◌, Bool, List, ℕ, zero, suc, ◌+◌, ◌*◌, ◌≤◌, ◌<◌, length, take}
+use Rattle.std.specs.Prelude.{◌≡◌, Bool, List, ℕ, ◌+◌, ◌*◌, ◌≤◌, ◌<◌, length, take, Option, Result, Ok, Err}
+use Rattle.refusal.specs.declared.Refusal.{Refusal}
 use Rattle.refusal.specs.declared.Refusal.TheVariants.{NoRoom}
 use Rattle.laws.specs.Tests.{Says}
-use Rattle.spans.specs.Spans.{many, bytes, first}
+use Rattle.spans.specs.Spans.{many, bytes, bytes_before, first}
 use Rattle.lattice.specs.Lattice.{Edge, cache}
 use Rattle.trie.specs.Index.{Indexing, Indexes}
-use Rattle.trie.specs.declared.Indexed.{Indexed}
 use Rattle.rows.specs.Word.{Holds}
 use Rattle.builder.specs.Lay.{words_of, Listed, Fits}
 use Rattle.fresh.specs.Build.{Lent, Results, CacheRoom, Unchanged, Fresh, Ordered, Answers}
-use Rattle.fresh.specs.declared.Built.{Built}
-use Rattle.fresh.specs.declared.Built.TheVariants.{Edges, Refused}
 
 -- ---- the trie, in the first places of both slices
 pub record Front (keys ends : List ℕ) (places : ℕ) (spellings pieces : List ℕ) : Type 0 where
@@ -18,7 +16,7 @@ pub record Front (keys ends : List ℕ) (places : ℕ) (spellings pieces : List 
   pub in_ends : places ≤ length ends
   pub indexing : Indexing (take places keys) (take places ends) spellings pieces
 
-abbrev pub Fronted : List ℕ → ℕ → List ℕ → List ℕ → List ℕ → List ℕ → Indexed → Type 0
+abbrev pub Fronted : List ℕ → ℕ → List ℕ → List ℕ → List ℕ → List ℕ → Option ℕ → Type 0
 Fronted keys places spellings pieces keys' ends' r = Indexes spellings pieces (take places keys) (take places keys') (take places ends') r
 
 -- ---- the room that suffices, whatever the words and pieces are
@@ -29,8 +27,7 @@ pub record Short (words : List ℕ) : Type 0 where
 
 -- how many bytes the first k words have
 abbrev pub bytes_of : List ℕ → ℕ → ℕ
-bytes_of words zero = 0
-bytes_of words (suc k) = bytes_of words k + bytes words k
+bytes_of = bytes_before
 
 -- slots for n + 2 offsets a word of n characters, and for as many edges a character as the length setting; a character has a byte or more
 abbrev pub Ample : List ℕ → ℕ → Results → Type 0
@@ -50,16 +47,16 @@ pub record Laying (keys ends text words : List ℕ) (setting : ℕ) : Type 0 whe
   pub count : ℕ
   pub holds : Holds keys ends f count
 
-abbrev pub LaysTo : List (List (List Edge)) → Results → Results → Built → Type 0
-LaysTo lattices y y' (Edges count) = CacheRoom lattices y × Fresh lattices y y' count
-LaysTo lattices y y' (Refused refusal) = (refusal ≡ NoRoom 3) × (CacheRoom lattices y → ⊥) × Unchanged y y'
+abbrev pub LaysTo : List (List (List Edge)) → Results → Results → Result ℕ Refusal → Type 0
+LaysTo lattices y y' (Ok count) = CacheRoom lattices y × Fresh lattices y y' count
+LaysTo lattices y y' (Err refusal) = (refusal ≡ NoRoom 3) × (CacheRoom lattices y → ⊥) × Unchanged y y'
 
-abbrev pub Lays : List ℕ → List ℕ → List ℕ → List ℕ → ℕ → Results → Results → Built → Type 0
+abbrev pub Lays : List ℕ → List ℕ → List ℕ → List ℕ → ℕ → Results → Results → Result ℕ Refusal → Type 0
 Lays keys ends text words setting y y' r = (f : ℕ → List ℕ) (count : ℕ) → Holds keys ends f count → LaysTo (cache setting (first f count) (words_of text words (many words))) y y' r
 
 -- ---- both, of words and pieces that are in order; the work table is no part of it any more
 abbrev pub InOrder : Lent → List ℕ → List ℕ → Type 0
 InOrder x keys ends = (table : List ℕ) × Ordered x (record { keys = keys; ends = ends; table = table })
 
-abbrev pub Follows : Lent → Results → List ℕ → List ℕ → Results → Built → Type 0
+abbrev pub Follows : Lent → Results → List ℕ → List ℕ → Results → Result ℕ Refusal → Type 0
 Follows x y keys ends y' r = (table : List ℕ) → Ordered x (record { keys = keys; ends = ends; table = table }) → Answers x y (record { keys = keys; ends = ends; table = table }) y' r

@@ -11,20 +11,11 @@ ghost use Rattle.spans.specs.Spans.{many};
 ghost use Rattle.rows.specs.Word.{Room as WalkRoom};
 ghost use Rattle.builder.specs.Lay.{Fits, Listed};
 ghost use Rattle.fresh.specs.Slots.{Room, Cleared};
-ghost use Rattle.fresh.specs.Build.{smaller};
-ghost use Rattle.fresh.specs.Steps.{Short, bytes_of, Ample, Laying, Enough, Lays, Front, Fronted, InOrder, Follows};
+ghost use Rattle.fresh.specs.Steps.{Short, Ample, Laying, Enough, Lays, Front, Fronted, InOrder, Follows};
 
 use builder::{build_words, count_words};
 use refusal::Refusal;
 use retain::clear_from;
-use trie::Indexed;
-
-// How many edges there are, or why nothing was done.
-#[derive(Clone, Copy)]
-pub enum Built {
-    Edges(usize),
-    Refused(Refusal),
-}
 
 // Zeros in the slots past those used.
 pub fn clear(
@@ -45,16 +36,6 @@ pub fn clear(
     clear_from(spans, 4 * words);
 }
 
-// The smaller of two numbers.
-pub fn smaller(a: usize, b: usize) -> usize
-    ensures { result ≡ smaller a b }
-{
-    if a <= b {
-        return a;
-    }
-    b
-}
-
 // Whether so many edges and offsets, and four numbers a word, have slots.
 fn fits(
     offsets: &[u32],
@@ -68,31 +49,7 @@ fn fits(
     requires { words ≤ 16384 }
     ensures { Says result (Fits offsets.now starts.now ids.now spans.now words (record { edges = edges; ends = ends })) }
 {
-    if offsets.len() < ends {
-        return false;
-    }
-    if starts.len() < edges {
-        return false;
-    }
-    if ids.len() < edges {
-        return false;
-    }
-    4 * words <= spans.len()
-}
-
-// How many bytes all words have.
-fn all_bytes(words: &[u32]) -> usize
-    requires { Short words.now }
-    ensures { result ≡ bytes_of words.now (many words.now) }
-{
-    let many = spans::count(words);
-    let mut sum = 0;
-    let mut k = 0;
-    while k < many {
-        sum += spans::bytes(words, k);
-        k += 1;
-    }
-    sum
+    ends <= offsets.len() && edges <= starts.len() && edges <= ids.len() && 4 * words <= spans.len()
 }
 
 // Whether there are slots for whatever lattices the words have. A character has a byte or more, and ends at most as many edges as
@@ -109,7 +66,7 @@ fn ample(
     ensures { Says result (Ample words.now setting (record { offsets = offsets.now; starts = starts.now; ids = ids.now; spans = spans.now })) }
 {
     let many = spans::count(words);
-    let bytes = all_bytes(words);
+    let bytes = spans::all_bytes(words);
     fits(
         offsets,
         starts,
@@ -153,7 +110,7 @@ fn enough(
     )
 }
 
-// The lattices of all words over a trie, laid out; or there are too few slots, and nothing is done.
+// The lattices of all words over a trie, laid out, and how many edges they have; or there are too few slots, and nothing is done.
 pub fn lay(
     keys: &[u64],
     ends: &[u32],
@@ -164,7 +121,7 @@ pub fn lay(
     starts: &mut [u32],
     ids: &mut [u32],
     spans: &mut [u32],
-) -> Built
+) -> Result<usize, Refusal>
     requires { Laying keys.now ends.now text.now words.now setting }
     ensures { Lays keys.now ends.now text.now words.now setting (record { offsets = offsets.old; starts = starts.old; ids = ids.old; spans = spans.old }) (record { offsets = offsets.new; starts = starts.new; ids = ids.new; spans = spans.new }) result }
 {
@@ -173,14 +130,14 @@ pub fn lay(
     if !enough(
         keys, ends, text, words, setting, &mut chars, &mut grid, offsets, starts, ids, spans,
     ) {
-        return Built::Refused(Refusal::NoRoom(refusal::NO_ROOM_EDGES));
+        return Err(Refusal::NoRoom(refusal::NO_ROOM_EDGES));
     }
     let all = build_words(
         keys, ends, text, words, setting, &mut chars, &mut grid, offsets, starts, ids, spans,
     );
     let many = spans::count(words);
     clear(offsets, starts, ids, spans, all.ends, all.edges, many);
-    Built::Edges(all.edges)
+    Ok(all.edges)
 }
 
 // The trie of the pieces, in the first places of both slices.
@@ -190,14 +147,14 @@ pub fn index_front(
     places: usize,
     spellings: &[u8],
     pieces: &[u32],
-) -> Indexed
+) -> Option<usize>
     requires { Front keys.old ends.old places spellings.now pieces.now }
     ensures { Fronted keys.old places spellings.now pieces.now keys.new ends.new result }
 {
     trie::index(&mut keys[..places], &mut ends[..places], spellings, pieces)
 }
 
-// Builds the trie and then the cache, of words and pieces that are in order.
+// Builds the trie and then the cache, of words and pieces that are in order. Answers how many edges there are.
 pub fn index_and_lay(
     setting: usize,
     text: &[u8],
@@ -210,23 +167,23 @@ pub fn index_and_lay(
     spans: &mut [u32],
     keys: &mut [u64],
     ends: &mut [u32],
-) -> Built
+) -> Result<usize, Refusal>
     requires { InOrder (record { setting = setting; text = text.now; words = words.now; spellings = spellings.now; pieces = pieces.now }) keys.old ends.old }
     ensures { Follows (record { setting = setting; text = text.now; words = words.now; spellings = spellings.now; pieces = pieces.now }) (record { offsets = offsets.old; starts = starts.old; ids = ids.old; spans = spans.old }) keys.old ends.old (record { offsets = offsets.new; starts = starts.new; ids = ids.new; spans = spans.new }) result }
 {
-    let places = smaller(smaller(keys.len(), ends.len()), 4294967295);
-    match index_front(keys, ends, places, spellings, pieces) {
-        Indexed::NoRoom => Built::Refused(Refusal::NoRoom(refusal::NO_ROOM_TRIE)),
-        Indexed::Nodes(_) => lay(
-            &keys[..places],
-            &ends[..places],
-            text,
-            words,
-            setting,
-            offsets,
-            starts,
-            ids,
-            spans,
-        ),
-    }
+    let places = keys.len().min(ends.len()).min(4294967295);
+    index_front(keys, ends, places, spellings, pieces).ok_or(Refusal::NoRoom(
+        refusal::NO_ROOM_TRIE,
+    ))?;
+    lay(
+        &keys[..places],
+        &ends[..places],
+        text,
+        words,
+        setting,
+        offsets,
+        starts,
+        ids,
+        spans,
+    )
 }

@@ -10,11 +10,9 @@ use lib.Dec.{lit<, leb}
 use lib.ListN.{length, take, drop, get_or, length-drop}
 use lib.Seq.{sets, sets-eq, length-sets, take_at, drop_at, length-take-le, take-suc, take_all}
 use borrow.Author.Tests.{le-leb, leb-true}
+use Rattle.std.specs.Prelude.{Option, Some, None}
 use Rattle.hexadecimal.specs.Digits.{digit_of, value_of, digits_of, then, numeral}
 use Rattle.hexadecimal.specs.Frames.{read_at, write_at}
-use Rattle.hexadecimal.specs.declared.Number.TheVariants.{Value, Bad}
-use Rattle.hexadecimal.specs.declared.Nibble.{Nibble}
-use Rattle.hexadecimal.specs.declared.Nibble.TheVariants.{Value as Digit, Bad as NoDigit}
 use Rattle.hexadecimal.proofs.Valued.{value_digit, digit_below, digit_made}
 use Rattle.hexadecimal.proofs.Writing.{length_digits}
 
@@ -46,7 +44,7 @@ run out vs at n e h =
     ∙ take_at vs (drop (at + length vs) out) n e
 
 -- Where there is room for n digits, 16 at the most, a number that n digits hold is read as it was written.
-pub read_written : (out : List ℕ) (at n x : ℕ) → at + n ≤ length out → n ≤ 16 → x < 16 ^ n → read_at (write_at out at n x) at n ≡ Value x
+pub read_written : (out : List ℕ) (at n x : ℕ) → at + n ≤ length out → n ≤ 16 → x < 16 ^ n → read_at (write_at out at n x) at n ≡ Some x
 unfolding read_at write_at numeral
 read_written out at n x h g l =
     let w : at + n ≤ length (sets out at (digits_of n x)) = rw (length-sets out at (digits_of n x)) h in
@@ -56,32 +54,32 @@ read_written out at n x h g l =
       le-leb (at + n) (length (sets out at (digits_of n x))) w,
       run out (digits_of n x) at n (length_digits n x) h,
     )
-    (ap (λ (s : List ℕ). numeral s 0) (sym (append-nil (digits_of n x))) ∙ digits_read n x 0 [] l ∙ ap Value (omega arith))
+    (ap (λ (s : List ℕ). numeral s 0) (sym (append-nil (digits_of n x))) ∙ digits_read n x 0 [] l ∙ ap Some (omega arith))
 
 -- the last digit of a number that was read
 module _ (b x : ℕ) where
   abbrev Last : List ℕ → ℕ → Type 0
-  Last s v = (y : ℕ) × (d : ℕ) × (numeral s v ≡ Value y) × (value_of b ≡ Digit d) × (x ≡ y * 16 + d)
+  Last s v = (y : ℕ) × (d : ℕ) × (numeral s v ≡ Some y) × (value_of b ≡ Some d) × (x ≡ y * 16 + d)
 
-  last : (s : List ℕ) (v : ℕ) → numeral (s ++ b ∷ []) v ≡ Value x → Last s v
+  last : (s : List ℕ) (v : ℕ) → numeral (s ++ b ∷ []) v ≡ Some x → Last s v
   unfolding numeral then
   last [] v e = go (value_of b) refl e
     where
-      go : (k : Nibble) → value_of b ≡ k → then k v (λ w. Value w) ≡ Value x → Last [] v
-      go (Digit d) p q = (v, d, refl, p, cc)
-      go NoDigit p q = let z : ◌≡◌ {A = ℕ} 0 1 = cc in absurd (omega arith)
+      go : (k : Option ℕ) → value_of b ≡ k → then k v (λ w. Some w) ≡ Some x → Last [] v
+      go (Some d) p q = (v, d, refl, p, cc)
+      go None p q = let z : ◌≡◌ {A = ℕ} 0 1 = cc in absurd (omega arith)
   last (a ∷ s) v e = go (value_of a) refl e (λ w. last s w)
     where
-      go : (k : Nibble) → value_of a ≡ k → then k v (λ w. numeral (s ++ b ∷ []) w) ≡ Value x
-          → ((w : ℕ) → numeral (s ++ b ∷ []) w ≡ Value x → Last s w) → Last (a ∷ s) v
-      go (Digit d) p q ih = let (y, c, f, g, h) = ih (v * 16 + d) q in (y, c, rw p f, g, h)
-      go NoDigit p q ih = let z : ◌≡◌ {A = ℕ} 0 1 = cc in absurd (omega arith)
+      go : (k : Option ℕ) → value_of a ≡ k → then k v (λ w. numeral (s ++ b ∷ []) w) ≡ Some x
+          → ((w : ℕ) → numeral (s ++ b ∷ []) w ≡ Some x → Last s w) → Last (a ∷ s) v
+      go (Some d) p q ih = let (y, c, f, g, h) = ih (v * 16 + d) q in (y, c, rw p f, g, h)
+      go None p q ih = let z : ◌≡◌ {A = ℕ} 0 1 = cc in absurd (omega arith)
 
 snoc : {s t : List ℕ} {a b : ℕ} → s ≡ t → a ≡ b → s ++ a ∷ [] ≡ t ++ b ∷ []
 snoc p q = cc
 
 -- n bytes that are a number are its n digits
-spelt : (n : ℕ) (s : List ℕ) (x : ℕ) → length s ≡ n → numeral s 0 ≡ Value x → s ≡ digits_of n x
+spelt : (n : ℕ) (s : List ℕ) (x : ℕ) → length s ≡ n → numeral s 0 ≡ Some x → s ≡ digits_of n x
 unfolding digits_of
 spelt zero [] x l e = refl
 spelt zero (b ∷ s) x l e = absurd (omega arith)
@@ -95,16 +93,16 @@ spelt (suc n) s x l e =
     sym f ∙ snoc (t ∙ ap (digits_of n) (sym u)) (digit_made (get_or s n 0) q ∙ ap digit_of (sym w))
 
 -- The bytes that are read as a number are the ones that `write` would write.
-pub one_spelling : (text : List ℕ) (at n x : ℕ) → read_at text at n ≡ Value x → take n (drop at text) ≡ digits_of n x
+pub one_spelling : (text : List ℕ) (at n x : ℕ) → read_at text at n ≡ Some x → take n (drop at text) ≡ digits_of n x
 unfolding read_at
 one_spelling text at n x e = few (leb n 16) e
   where
-    inside : (b : Bool) → leb (at + n) (length text) ≡ b → cond b (numeral (take n (drop at text)) 0) Bad ≡ Value x → take n (drop at text) ≡ digits_of n x
+    inside : (b : Bool) → leb (at + n) (length text) ≡ b → cond b (numeral (take n (drop at text)) 0) None ≡ Some x → take n (drop at text) ≡ digits_of n x
     inside true t p =
         let h : at + n ≤ length text = leb-true (at + n) (length text) t in
         spelt n (take n (drop at text)) x (length-take-le n (drop at text) (simp length-drop (omega arith))) p
     inside false t p = let z : ◌≡◌ {A = ℕ} 0 1 = cc in absurd (omega arith)
 
-    few : (b : Bool) → cond b (cond (leb (at + n) (length text)) (numeral (take n (drop at text)) 0) Bad) Bad ≡ Value x → take n (drop at text) ≡ digits_of n x
+    few : (b : Bool) → cond b (cond (leb (at + n) (length text)) (numeral (take n (drop at text)) 0) None) None ≡ Some x → take n (drop at text) ≡ digits_of n x
     few true p = inside (leb (at + n) (length text)) refl p
     few false p = let z : ◌≡◌ {A = ℕ} 0 1 = cc in absurd (omega arith)

@@ -6,20 +6,19 @@ use mathlib.Core.Bool.{Bool, cond}
 use native.Mathlib.Omega.{arith}
 use lib.Dec.{leb, ltb}
 use borrow.Author.Tests.{ltb-false, leb-true, ltb-true, lt-ltb, le-ltb, le-leb, lt-leb}
+use Rattle.std.specs.Prelude.{Option, Some, None}
 use Rattle.laws.proofs.Choices.{cond_cases}
 use Rattle.hexadecimal.specs.Digits.{digit_of, value_of}
-use Rattle.hexadecimal.specs.declared.Nibble.{Nibble}
-use Rattle.hexadecimal.specs.declared.Nibble.TheVariants.{Value as Digit, Bad as NoDigit}
 
 -- a number below 16 has the one digit
-abbrev Made : ℕ → Nibble → Type 0
-Made b (Digit d) = (d < 16) × (b ≡ digit_of d)
-Made b NoDigit = Unit {0}
+abbrev Made : ℕ → Option ℕ → Type 0
+Made b (Some d) = (d < 16) × (b ≡ digit_of d)
+Made b None = Unit {0}
 
-low : (b : ℕ) → 48 ≤ b → b ≤ 57 → Made b (Digit (b - 48))
+low : (b : ℕ) → 48 ≤ b → b ≤ 57 → Made b (Some (b - 48))
 low b g h = (omega arith, sym (ap (λ (t : Bool). cond t (48 + (b - 48)) (87 + (b - 48))) (lt-ltb (b - 48) 10 (omega arith)) ∙ omega arith))
 
-high : (b : ℕ) → 97 ≤ b → b ≤ 102 → Made b (Digit (b - 87))
+high : (b : ℕ) → 97 ≤ b → b ≤ 102 → Made b (Some (b - 87))
 high b g h = (omega arith, sym (ap (λ (t : Bool). cond t (48 + (b - 87)) (87 + (b - 87))) (le-ltb (b - 87) 10 (omega arith)) ∙ omega arith))
 
 made : (b : ℕ) → Made b (value_of b)
@@ -30,48 +29,32 @@ made b =
     (λ _. cond_cases (Made b) (ltb b 97) _ _ (λ _. tt)
     (λ u. cond_cases (Made b) (leb b 102) _ _ (λ t. high b (ltb-false b 97 u) (leb-true b 102 t)) (λ _. tt))))
 
-pub digit_below : (b : ℕ) {d : ℕ} → value_of b ≡ Digit d → d < 16
+pub digit_below : (b : ℕ) {d : ℕ} → value_of b ≡ Some d → d < 16
 digit_below b e = (subst (Made b) e (made b)).0
 
-pub digit_made : (b : ℕ) {d : ℕ} → value_of b ≡ Digit d → b ≡ digit_of d
+pub digit_made : (b : ℕ) {d : ℕ} → value_of b ≡ Some d → b ≡ digit_of d
 digit_made b e = (subst (Made b) e (made b)).1
 
--- each way out of `value`
+-- the digits below ten, and those from ten on
 module _ (b : ℕ) where
-  pub below_0 : b < 48 → NoDigit ≡ value_of b
-  unfolding value_of
-  below_0 h = rw (lt-ltb b 48 h)
-
-  pub from_0 : 48 ≤ b → b ≤ 57 → Digit (b - 48) ≡ value_of b
+  from_0 : 48 ≤ b → b ≤ 57 → Some (b - 48) ≡ value_of b
   unfolding value_of
   from_0 g h = rw (le-ltb b 48 g, le-leb b 57 h)
 
-  pub below_a : 57 < b → b < 97 → NoDigit ≡ value_of b
-  unfolding value_of
-  below_a g h = let l : 48 ≤ b = omega arith in rw (le-ltb b 48 l, lt-leb b 57 g, lt-ltb b 97 h)
-
-  pub from_a : 97 ≤ b → b ≤ 102 → Digit (b - 87) ≡ value_of b
+  from_a : 97 ≤ b → b ≤ 102 → Some (b - 87) ≡ value_of b
   unfolding value_of
   from_a g h =
       let l : 48 ≤ b = omega arith in
       let m : 57 < b = omega arith in
       rw (le-ltb b 48 l, lt-leb b 57 m, le-ltb b 97 g, le-leb b 102 h)
 
-  pub beyond_f : 102 < b → NoDigit ≡ value_of b
-  unfolding value_of
-  beyond_f h =
-      let l : 48 ≤ b = omega arith in
-      let m : 57 < b = omega arith in
-      let n : 97 ≤ b = omega arith in
-      rw (le-ltb b 48 l, lt-leb b 57 m, le-ltb b 97 n, lt-leb b 102 h)
-
 -- a digit stands for the number that made it
-pub value_digit : (v : ℕ) → v < 16 → value_of (digit_of v) ≡ Digit v
+pub value_digit : (v : ℕ) → v < 16 → value_of (digit_of v) ≡ Some v
 value_digit v h =
-    cond_cases (λ (b : ℕ). value_of b ≡ Digit v) (ltb v 10) (48 + v) (87 + v) (λ t. small (ltb-true v 10 t)) (λ t. large (ltb-false v 10 t))
+    cond_cases (λ (b : ℕ). value_of b ≡ Some v) (ltb v 10) (48 + v) (87 + v) (λ t. small (ltb-true v 10 t)) (λ t. large (ltb-false v 10 t))
   where
-    small : v < 10 → value_of (48 + v) ≡ Digit v
-    small l = sym (from_0 (48 + v) (omega arith) (omega arith)) ∙ ap (λ (n : ℕ). Digit n) (omega arith)
+    small : v < 10 → value_of (48 + v) ≡ Some v
+    small l = sym (from_0 (48 + v) (omega arith) (omega arith)) ∙ ap (λ (n : ℕ). Some n) (omega arith)
 
-    large : 10 ≤ v → value_of (87 + v) ≡ Digit v
-    large l = sym (from_a (87 + v) (omega arith) (omega arith)) ∙ ap (λ (n : ℕ). Digit n) (omega arith)
+    large : 10 ≤ v → value_of (87 + v) ≡ Some v
+    large l = sym (from_a (87 + v) (omega arith) (omega arith)) ∙ ap (λ (n : ℕ). Some n) (omega arith)

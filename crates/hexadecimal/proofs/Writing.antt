@@ -8,10 +8,9 @@ use native.Mathlib.Numerals.{add-one}
 use native.Mathlib.Omega.{arith}
 use lib.ListN.{length, set, length-set, length-append}
 use lib.Seq.{sets, set_comm}
-use borrow.Author.Tests.{le-leb, lt-leb}
+use borrow.Author.Tests.{le-leb}
 use Rattle.hexadecimal.specs.Digits.{digit_of, digits_of}
-use Rattle.hexadecimal.specs.Frames.{written_at, write_at}
-use Rattle.hexadecimal.specs.declared.Written.TheVariants.{Upto, NoRoom}
+use Rattle.hexadecimal.specs.Frames.{write_at}
 
 pub length_digits : (n x : ℕ) → length (digits_of n x) ≡ n
 unfolding digits_of
@@ -40,14 +39,6 @@ pub record Writing (before out : List ℕ) (at n x left k : ℕ) : Type 0 where
   pub size : length out ≡ length before
   pub same : sets out at (digits_of k left) ≡ sets before at (digits_of n x)
 
-module _ (out : List ℕ) (at n x : ℕ) where
-  pub no_room : length out < at + n → (NoRoom ≡ written_at (length out) at n) × (out ≡ write_at out at n x)
-  unfolding written_at write_at
-  no_room h = (rw (lt-leb (at + n) (length out) h), rw (lt-leb (at + n) (length out) h))
-
-  pub writing_none : at + n ≤ length out → Writing out out at n x x n
-  writing_none h = record { upto = omega arith; inside = h; size = refl; same = refl }
-
 module _ {before out : List ℕ} {at n x left k : ℕ} (w : Writing before out at n x left k) where
   pub writing_more : 0 < k → (d : ℕ) → d ≡ digit_of (left % 16 % 16) → Writing before (set out (at + (k - 1)) d) at n x (left / 16) (k - 1)
   writing_more h d e =
@@ -62,9 +53,9 @@ module _ {before out : List ℕ} {at n x left k : ℕ} (w : Writing before out a
             ∙ sym (last_digit out at (k - 1) left) ∙ ap (λ (j : ℕ). sets out at (digits_of j left)) (sym s) ∙ w.same;
       }
 
-  pub writing_end : k ≤ 0 → (Upto (at + n) ≡ written_at (length before) at n) × (out ≡ write_at before at n x)
-  unfolding written_at write_at digits_of
+  pub writing_end : k ≤ 0 → out ≡ write_at before at n x
+  unfolding write_at digits_of
   writing_end h =
       let z : k ≡ 0 = omega arith in
       let o : out ≡ sets before at (digits_of n x) = ap (λ (j : ℕ). sets out at (digits_of j left)) (sym z) ∙ w.same in
-      (rw (le-leb (at + n) (length before) w.inside), rw (le-leb (at + n) (length before) w.inside) o)
+      rw (le-leb (at + n) (length before) w.inside) o

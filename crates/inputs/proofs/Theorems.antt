@@ -16,8 +16,7 @@ use Rattle.spans.proofs.Theorems.{one_bad}
 use Rattle.repeats.specs.Repeats.{Lowest}
 use Rattle.lattice.specs.Pieces.{Distinct, no_piece, one_more}
 use Rattle.inputs.specs.Inputs.{GoodPieces, Once, InOrder, Why, bad_setting, no_room, bad_word, bad_piece, repeated, Answers}
-use Rattle.inputs.specs.declared.Checked.{Checked}
-use Rattle.inputs.specs.declared.Checked.TheVariants.{Fine, Refused}
+use Rattle.std.specs.Prelude.{Result, Ok, Err}
 
 -- ---- one answer
 lowest_one : {spellings pieces : List ℕ} (j k : ℕ) → Lowest spellings pieces j → Lowest spellings pieces k → j ≡ k
@@ -64,11 +63,11 @@ module _ {setting : ℕ} {text words spellings pieces table : List ℕ} where
   one_why (repeated s b w p l) (bad_piece t c v g) = absurd (g.bad (p _ g.within))
   one_why (repeated {k = j} s b w p l) (repeated {k = k} t c v q m) = ap RepeatedPiece (lowest_one j k l m)
 
-pub one_answer : (setting : ℕ) (text words spellings pieces table : List ℕ) (r s : Checked) → Answers setting text words spellings pieces table r → Answers setting text words spellings pieces table s → r ≡ s
-one_answer setting text words spellings pieces table Fine Fine p q = refl
-one_answer setting text words spellings pieces table Fine (Refused s) p q = absurd (not_both q p)
-one_answer setting text words spellings pieces table (Refused r) Fine p q = absurd (not_both p q)
-one_answer setting text words spellings pieces table (Refused r) (Refused s) p q = ap Refused (one_why p q)
+pub one_answer : (setting : ℕ) (text words spellings pieces table : List ℕ) (r s : Result (Unit {0}) Refusal) → Answers setting text words spellings pieces table r → Answers setting text words spellings pieces table s → r ≡ s
+one_answer setting text words spellings pieces table (Ok _) (Ok _) p q = refl
+one_answer setting text words spellings pieces table (Ok _) (Err s) p q = absurd (not_both q p)
+one_answer setting text words spellings pieces table (Err r) (Ok _) p q = absurd (not_both p q)
+one_answer setting text words spellings pieces table (Err r) (Err s) p q = ap Err (one_why p q)
 
 -- ---- BadPiece is given exactly when "a lent piece is not UTF-8 or outside its text"
 pub good_piece : (text pieces : List ℕ) (k : ℕ) → length text ≤ 1048576 → Good text pieces 1048576 k ↔ (Inside text pieces k × Spells (octets text pieces k) (chars_at text pieces k))

@@ -1,13 +1,11 @@
 -- What a build is lent, and when it is refused before any trie is made: document 01's table, rows 2, 7 at place 0, 3, 14 and
 -- 15, in this order. Definitions only.
-use Rattle.std.specs.Prelude.{List, ℕ, ◌*◌, ◌≤◌, ◌<◌, length}
+use Rattle.std.specs.Prelude.{List, ℕ, ◌*◌, ◌≤◌, ◌<◌, length, Result, Ok, Err}
 use Rattle.refusal.specs.declared.Refusal.{Refusal}
 use Rattle.refusal.specs.declared.Refusal.TheVariants.{BadSetting, NoRoom, BadWord, BadPiece, RepeatedPiece}
 use Rattle.spans.specs.Spans.{many}
 use Rattle.spans.specs.Check.{AllGood, FirstBad}
 use Rattle.repeats.specs.Repeats.{Again, Lowest}
-use Rattle.inputs.specs.declared.Checked.{Checked}
-use Rattle.inputs.specs.declared.Checked.TheVariants.{Fine, Refused}
 
 -- "Piece length setting at most 32 characters."
 abbrev pub Short : ℕ → Type 0
@@ -51,6 +49,6 @@ pub data Why (setting : ℕ) (text words spellings pieces table : List ℕ) : Re
   repeated : {k : ℕ} → Short setting → Bounded text words spellings pieces table → GoodWords text words → GoodPieces spellings pieces → Lowest spellings pieces k
       → Why setting text words spellings pieces table (RepeatedPiece k)
 
-abbrev pub Answers : ℕ → List ℕ → List ℕ → List ℕ → List ℕ → List ℕ → Checked → Type 0
-Answers setting text words spellings pieces table Fine = InOrder setting text words spellings pieces table
-Answers setting text words spellings pieces table (Refused refusal) = Why setting text words spellings pieces table refusal
+abbrev pub Answers : ℕ → List ℕ → List ℕ → List ℕ → List ℕ → List ℕ → Result (Unit {0}) Refusal → Type 0
+Answers setting text words spellings pieces table (Ok _) = InOrder setting text words spellings pieces table
+Answers setting text words spellings pieces table (Err refusal) = Why setting text words spellings pieces table refusal

@@ -8,33 +8,18 @@ ghost use Rattle.laws.specs.Tests.{Says};
 ghost use Rattle.inputs.specs.Inputs.{Bounded, Answers};
 
 use refusal::Refusal;
-use repeats::{Repeated, repeat};
-
-// All is in order, or why not.
-#[derive(Clone, Copy)]
-pub enum Checked {
-    Fine,
-    Refused(Refusal),
-}
+use repeats::repeat;
 
 // Whether the sizes are within the bounds, and the work table has two numbers for each piece.
 fn bounded(text: &[u8], words: &[u32], spellings: &[u8], pieces: &[u32], table: &[u32]) -> bool
     ensures { Says result (Bounded text.now words.now spellings.now pieces.now table.now) }
 {
-    if refusal::WORDS < spans::count(words) {
-        return false;
-    }
     let many = spans::count(pieces);
-    if refusal::LENT_PIECES < many {
-        return false;
-    }
-    if refusal::TEXT_BYTES < text.len() {
-        return false;
-    }
-    if refusal::TEXT_BYTES < spellings.len() {
-        return false;
-    }
-    2 * many <= table.len()
+    spans::count(words) <= refusal::WORDS
+        && many <= refusal::LENT_PIECES
+        && text.len() <= refusal::TEXT_BYTES
+        && spellings.len() <= refusal::TEXT_BYTES
+        && 2 * many <= table.len()
 }
 
 // Checks all, with a work table that is left as it may be.
@@ -45,29 +30,23 @@ pub fn check(
     spellings: &[u8],
     pieces: &[u32],
     table: &mut [u32],
-) -> Checked
+) -> Result<(), Refusal>
     ensures { Answers setting text.now words.now spellings.now pieces.now table.old result }
 {
     if refusal::PIECE_LENGTH < setting {
-        return Checked::Refused(Refusal::BadSetting(refusal::BAD_SETTING_PIECE_LENGTH));
+        return Err(Refusal::BadSetting(refusal::BAD_SETTING_PIECE_LENGTH));
     }
     if !bounded(text, words, spellings, pieces, table) {
-        return Checked::Refused(Refusal::NoRoom(refusal::NO_ROOM_BOUNDS));
+        return Err(Refusal::NoRoom(refusal::NO_ROOM_BOUNDS));
     }
-    match spans::check(text, words, refusal::WORD_BYTES) {
-        spans::Checked::BadAt(k) => {
-            return Checked::Refused(Refusal::BadWord(k as u64));
-        }
-        spans::Checked::Fine => {}
+    if let Err(k) = spans::check(text, words, refusal::WORD_BYTES) {
+        return Err(Refusal::BadWord(k as u64));
     }
-    match spans::check(spellings, pieces, refusal::TEXT_BYTES) {
-        spans::Checked::BadAt(k) => {
-            return Checked::Refused(Refusal::BadPiece(k as u64));
-        }
-        spans::Checked::Fine => {}
+    if let Err(k) = spans::check(spellings, pieces, refusal::TEXT_BYTES) {
+        return Err(Refusal::BadPiece(k as u64));
     }
-    match repeat(spellings, pieces, table) {
-        Repeated::At(k) => Checked::Refused(Refusal::RepeatedPiece(k as u64)),
-        Repeated::Nothing => Checked::Fine,
+    if let Some(k) = repeat(spellings, pieces, table) {
+        return Err(Refusal::RepeatedPiece(k as u64));
     }
+    Ok(())
 }

@@ -1,5 +1,5 @@
 -- A number without its fraction, by the two tests of `whole`. Assumes nothing.
-use Rattle.std.proofs.Common.{◌≡◌, ℕ, ◌+◌, ◌*◌, ◌/◌, ◌^◌, ◌<◌, ◌≤◌, min, true, false, T, ltb, pos, sym, refl, ap, ◌∙◌, subst, true≢false, le-div_iff_mul-le, arith, ltb-false}
+use Rattle.std.proofs.Common.{◌≡◌, ℕ, ◌+◌, ◌*◌, ◌/◌, ◌^◌, ◌<◌, ◌≤◌, min, max, true, false, T, ltb, pos, sym, refl, ap, ◌∙◌, subst, true≢false, le-div_iff_mul-le, arith, ltb-false}
 use lib.Ieee.{Float, nan, inf, fin, binary64, up, down, lt, neg, of_bits, to_unsigned, of_int, mul}
 use lib.Ieee.Fits.{down_pos}
 use Rattle.keep.specs.Keep.{whole_of, product_of, keep_of}
@@ -66,12 +66,7 @@ pub most_whole : (x : Float) → lt minus_one x ≡ true → lt x too_large ≡ 
 most_whole x a b = sym (above_all x (subst (λ (y : Float). lt y x ≡ true) one_is a) (subst (λ (y : Float). lt x y ≡ false) large_is b))
 
 -- ---- "then not below target"
-module _ (pieces : ℕ) (factor : Float) (target kept : ℕ) {count : Float} (c : count ≡ of_int binary64 (pos pieces)) (w : kept ≡ whole_of (mul binary64 count factor)) where
-  product : kept ≡ whole_of (product_of pieces factor)
-  product = w ∙ ap (λ (y : Float). whole_of (mul binary64 y factor)) c
-
-  pub kept_target : kept < target → target ≡ keep_of pieces factor target
-  kept_target h = let e = product in omega arith
-
-  pub kept_product : target ≤ kept → kept ≡ keep_of pieces factor target
-  kept_product h = let e = product in omega arith
+pub kept_is : (pieces : ℕ) (factor : Float) (target : ℕ) {cut : ℕ} {count : Float} → count ≡ of_int binary64 (pos pieces) → cut ≡ whole_of (mul binary64 count factor) → max cut target ≡ keep_of pieces factor target
+kept_is pieces factor target {cut} {count} c w =
+    let e : cut ≡ whole_of (product_of pieces factor) = w ∙ ap (λ (y : Float). whole_of (mul binary64 y factor)) c in
+    omega arith

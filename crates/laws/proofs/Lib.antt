@@ -3,4 +3,3 @@ pub mod Tables
 pub mod Outcome
 pub mod Tests
 pub mod Ranges
-pub mod Fills

@@ -6,8 +6,7 @@ use native.Mathlib.Omega.{arith}
 use native.Mathlib.Decide.{dec_lt}
 use lib.Ieee.{Float}
 use Rattle.lent.specs.Lent.{FirstBad, Answers}
-use Rattle.lent.specs.declared.Scored.{Scored}
-use Rattle.lent.specs.declared.Scored.TheVariants.{Fine, BadAt}
+use Rattle.std.specs.Prelude.{Result, Ok, Err}
 
 pub one_bad : (scores : List Float) (i j : ℕ) → FirstBad scores i → FirstBad scores j → i ≡ j
 one_bad scores i j p q = elim (dec_lt i j) [
@@ -18,8 +17,8 @@ one_bad scores i j p q = elim (dec_lt i j) [
   ]
 ]
 
-pub one_answer : (scores : List Float) (r s : Scored) → Answers scores r → Answers scores s → r ≡ s
-one_answer scores Fine Fine p q = refl
-one_answer scores Fine (BadAt j) p q = absurd (q.bad (p j q.within))
-one_answer scores (BadAt i) Fine p q = absurd (p.bad (q i p.within))
-one_answer scores (BadAt i) (BadAt j) p q = ap BadAt (one_bad scores i j p q)
+pub one_answer : (scores : List Float) (r s : Result (Unit {0}) ℕ) → Answers scores r → Answers scores s → r ≡ s
+one_answer scores (Ok _) (Ok _) p q = refl
+one_answer scores (Ok _) (Err j) p q = absurd (q.bad (p j q.within))
+one_answer scores (Err i) (Ok _) p q = absurd (p.bad (q i p.within))
+one_answer scores (Err i) (Err j) p q = ap Err (one_bad scores i j p q)

@@ -1,9 +1,7 @@
 -- The scores, as a caller lends them: row 10 of document 01's table. Definitions only.
-use Rattle.std.specs.Prelude.{List, ℕ, ◌<◌, length, get_or, Float}
+use Rattle.std.specs.Prelude.{List, ℕ, ◌<◌, length, get_or, Float, Result, Ok, Err}
 use Rattle.std.specs.Float.{nan}
 use Rattle.scores.specs.Floats.{ZeroOrBelow}
-use Rattle.lent.specs.declared.Scored.{Scored}
-use Rattle.lent.specs.declared.Scored.TheVariants.{Fine, BadAt}
 
 -- "a score is NaN, above zero": the scores before i are not, and i is
 abbrev pub AllScored : List Float → ℕ → Type 0
@@ -14,6 +12,6 @@ pub record FirstBad (scores : List Float) (i : ℕ) : Type 0 where
   pub before : AllScored scores i
   pub bad : ZeroOrBelow (get_or scores i nan) → ⊥
 
-abbrev pub Answers : List Float → Scored → Type 0
-Answers scores Fine = AllScored scores (length scores)
-Answers scores (BadAt i) = FirstBad scores i
+abbrev pub Answers : List Float → Result (Unit {0}) ℕ → Type 0
+Answers scores (Ok _) = AllScored scores (length scores)
+Answers scores (Err i) = FirstBad scores i

@@ -9,51 +9,42 @@ ghost use Rattle.scores.specs.Floats.{zero_or_below};
 ghost use Rattle.formed.specs.Word.{WordFormed};
 ghost use Rattle.lent.specs.Lent.{Answers};
 
-use formed::{Span, formed};
+use formed::{Lattice, Span, formed};
 
-// All scores are as they should be, or the first that is not.
-#[derive(Clone, Copy)]
-pub enum Scored {
-    Fine,
-    BadAt(usize),
-}
-
-// Whether the lattice of a word of n characters is well formed, where ids below `pieces` have a score.
-pub fn word_formed(offsets: &[u32], starts: &[u32], ids: &[u32], pieces: usize, n: usize) -> bool
-    ensures { Says result (WordFormed offsets.now starts.now ids.now pieces n) }
+// Whether a word's lattice is well formed, where ids below `pieces` have a score.
+pub fn word_formed(lattice: &Lattice, pieces: usize) -> bool
+    ensures { Says result (WordFormed lattice.now.offsets.now lattice.now.starts.now lattice.now.ids.now pieces lattice.now.n) }
 {
-    if offsets.len() < 2 {
-        return false;
-    }
-    if offsets.len() - 2 != n {
-        return false;
-    }
+    let Lattice {
+        offsets,
+        starts,
+        ids,
+        n,
+    } = *lattice;
     let span = Span {
         from: 0,
         to: starts.len(),
         at: 0,
         n,
     };
-    formed(starts, ids, offsets, pieces, span)
+    offsets.len() >= 2 && offsets.len() - 2 == n && formed(starts, ids, offsets, pieces, span)
 }
 
-// Whether a score is zero or below, and not NaN.
+// Whether a score is zero or below, and not NaN: a name of its own, as the definition has it.
 fn zero_or_below(score: f64) -> bool
     ensures { result ≡ zero_or_below score }
 {
     score <= 0.0
 }
 
-// The first score that is NaN or above zero.
-pub fn check_scores(scores: &[f64]) -> Scored
+// Whether no score is NaN or above zero; else the first that is.
+pub fn check_scores(scores: &[f64]) -> Result<(), usize>
     ensures { Answers scores.now result }
 {
-    let mut i = 0;
-    while i < scores.len() {
-        if !zero_or_below(scores[i]) {
-            return Scored::BadAt(i);
+    for (i, score) in scores.iter().enumerate() {
+        if !zero_or_below(*score) {
+            return Err(i);
         }
-        i += 1;
     }
-    Scored::Fine
+    Ok(())
 }

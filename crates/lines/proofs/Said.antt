@@ -9,6 +9,7 @@ use lib.Dec.{eqb}
 use lib.ListN.{length, take, drop, set, length-append, length-drop}
 use lib.Seq.{sets, length-sets, length-take-le, take_at}
 use borrow.Author.Tests.{le-leb, lt-ltb, eqb-true}
+use Rattle.std.specs.Prelude.{Option, None, Some}
 use Rattle.laws.proofs.Choices.{yes, no, cond_cases}
 use Rattle.lattice.specs.Layout.{joined}
 use Rattle.lattice.proofs.Joined.{joined_append}
@@ -18,7 +19,7 @@ use Rattle.copied.proofs.Puts.{spans_long, puts_more}
 use Rattle.copied.proofs.Stores.{sets_over}
 use Rattle.frames.specs.Frames.{byte, number_at, seed_fits, settings_of, settings_frame, special_frame, word_frame, count_frame, frame_of}
 use Rattle.frames.specs.declared.input.Frame.{Frame}
-use Rattle.frames.specs.declared.input.Frame.TheVariants.{Settings as First, Special, Word, Count, Bad}
+use Rattle.frames.specs.declared.input.Frame.TheVariants.{Settings as First, Special, Word, Count}
 use Rattle.stored.specs.Stored.{Texts, Tables, texts, tables, nothing, part, fits, behind, has_room, with_special, with_word, store_of}
 use Rattle.stored.proofs.Rooms.{fitting, part_long, room_fits, room_whole}
 use Rattle.lines.specs.Lines.{line_bytes, line_frame}
@@ -26,38 +27,38 @@ use Rattle.lines.specs.Said.{word_of, frequency_of, special_of, words_in, freque
 use Rattle.lines.proofs.Theorems.{stored_by}
 
 -- ---- a frame's part is inside its bytes
-abbrev Inside : List ℕ → Frame → Type 0
-Inside bytes (First settings specials) = Unit {0}
-Inside bytes (Special from long) = from + long ≤ length bytes
-Inside bytes (Word frequency from long) = from + long ≤ length bytes
-Inside bytes (Count count) = Unit {0}
-Inside bytes Bad = Unit {0}
+abbrev Inside : List ℕ → Option Frame → Type 0
+Inside bytes (Some (First settings specials)) = Unit {0}
+Inside bytes (Some (Special from long)) = from + long ≤ length bytes
+Inside bytes (Some (Word frequency from long)) = from + long ≤ length bytes
+Inside bytes (Some (Count count)) = Unit {0}
+Inside bytes None = Unit {0}
 
 module _ (bytes : List ℕ) where
-  abbrev In : Frame → Type 0
+  abbrev In : Option Frame → Type 0
   In = Inside bytes
 
   abbrev fit : Bool
   fit = seed_fits (byte bytes 5) (number_at bytes 6 4)
 
-  abbrev made : Frame
-  made = First (settings_of bytes) (number_at bytes 29 2)
+  abbrev made : Option Frame
+  made = Some (First (settings_of bytes) (number_at bytes 29 2))
 
   first_inside : In (settings_frame bytes)
   unfolding settings_frame
-  first_inside = cond_cases In (eqb (length bytes) 31) (cond fit made Bad) Bad (λ e. cond_cases In fit made Bad (λ f. tt) (λ f. tt)) (λ e. tt)
+  first_inside = cond_cases In (eqb (length bytes) 31) (cond fit made None) None (λ e. cond_cases In fit made None (λ f. tt) (λ f. tt)) (λ e. tt)
 
   special_inside : In (special_frame bytes)
   unfolding special_frame
-  special_inside = cond_cases In (eqb (length bytes) (2 + byte bytes 1)) _ Bad (λ e. omega (arith, eqb-true (length bytes) (2 + byte bytes 1) e)) (λ e. tt)
+  special_inside = cond_cases In (eqb (length bytes) (2 + byte bytes 1)) _ None (λ e. omega (arith, eqb-true (length bytes) (2 + byte bytes 1) e)) (λ e. tt)
 
   word_inside : In (word_frame bytes)
   unfolding word_frame
-  word_inside = cond_cases In (eqb (length bytes) (10 + byte bytes 9)) _ Bad (λ e. omega (arith, eqb-true (length bytes) (10 + byte bytes 9) e)) (λ e. tt)
+  word_inside = cond_cases In (eqb (length bytes) (10 + byte bytes 9)) _ None (λ e. omega (arith, eqb-true (length bytes) (10 + byte bytes 9) e)) (λ e. tt)
 
   count_inside : In (count_frame bytes)
   unfolding count_frame
-  count_inside = cond_cases In (eqb (length bytes) 5) _ Bad (λ e. tt) (λ e. tt)
+  count_inside = cond_cases In (eqb (length bytes) 5) _ None (λ e. tt) (λ e. tt)
 
 frame_inside : (bytes : List ℕ) → Inside bytes (frame_of bytes)
 unfolding frame_of
@@ -67,7 +68,7 @@ frame_inside (kind ∷ rest) =
     cond_cases P (eqb kind 1) _ _ (λ e. first_inside (kind ∷ rest))
     (λ e. cond_cases P (eqb kind 2) _ _ (λ f. special_inside (kind ∷ rest))
     (λ f. cond_cases P (eqb kind 3) _ _ (λ g. word_inside (kind ∷ rest))
-    (λ g. cond_cases P (eqb kind 4) _ Bad (λ h. count_inside (kind ∷ rest)) (λ h. tt))))
+    (λ g. cond_cases P (eqb kind 4) _ None (λ h. count_inside (kind ∷ rest)) (λ h. tt))))
 
 -- ---- one text more
 module _ (list : List (List ℕ)) (bytes₀ spans₀ : List ℕ) (t : Texts) (s : Stand list bytes₀ spans₀ t) (bytes : List ℕ) (from long : ℕ) where
@@ -207,14 +208,14 @@ module _ (text₀ spans₀ frequencies₀ : List ℕ) where
   same words counts t s =
       subst (λ (y : List ℕ). Of (words ++ []) y t) (sym (append-nil counts)) (subst (λ (y : List (List ℕ)). Of y counts t) (sym (append-nil words)) s)
 
-  stored : (words : List (List ℕ)) (counts : List ℕ) (t : Tables) → Of words counts t → (bytes : List ℕ) (frame : Frame) → Inside bytes frame
+  stored : (words : List (List ℕ)) (counts : List ℕ) (t : Tables) → Of words counts t → (bytes : List ℕ) (frame : Option Frame) → Inside bytes frame
       → Of (words ++ word_of frame bytes) (counts ++ frequency_of frame) (store_of t frame bytes)
   unfolding store_of
-  stored words counts t s bytes (First settings specials) i = same words counts t s
-  stored words counts t s bytes (Special from long) i = cond_cases (Of (words ++ []) (counts ++ [])) (fits t.specials bytes from long) _ t (λ e. same words counts t s) (λ e. same words counts t s)
-  stored words counts t s bytes (Word frequency from long) i = word_stored words counts t s bytes frequency from long i
-  stored words counts t s bytes (Count count) i = same words counts t s
-  stored words counts t s bytes Bad i = same words counts t s
+  stored words counts t s bytes (Some (First settings specials)) i = same words counts t s
+  stored words counts t s bytes (Some (Special from long)) i = cond_cases (Of (words ++ []) (counts ++ [])) (fits t.specials bytes from long) _ t (λ e. same words counts t s) (λ e. same words counts t s)
+  stored words counts t s bytes (Some (Word frequency from long)) i = word_stored words counts t s bytes frequency from long i
+  stored words counts t s bytes (Some (Count count)) i = same words counts t s
+  stored words counts t s bytes None i = same words counts t s
 
   all_stored : (lines : List (List ℕ)) (words : List (List ℕ)) (counts : List ℕ) (t : Tables) → Of words counts t
       → Of (words ++ words_in lines) (counts ++ frequencies_in lines) (stored_by t lines)
@@ -244,14 +245,14 @@ module _ (texts₀ specials₀ : List ℕ) where
         (λ z. stand_more list texts₀ specials₀ t.specials h bytes from long)
         (λ z. absurd (no z (yes e)))
 
-    specials_stored : (frame : Frame) → Inside bytes frame → Specials (list ++ special_of frame bytes) (store_of t frame bytes)
+    specials_stored : (frame : Option Frame) → Inside bytes frame → Specials (list ++ special_of frame bytes) (store_of t frame bytes)
     unfolding store_of
-    specials_stored (First settings specials) i = no_special list t s
-    specials_stored (Special from long) i = special_stored from long i
-    specials_stored (Word frequency from long) i =
+    specials_stored (Some (First settings specials)) i = no_special list t s
+    specials_stored (Some (Special from long)) i = special_stored from long i
+    specials_stored (Some (Word frequency from long)) i =
         cond_cases (Specials (list ++ [])) (has_room t.words t.frequencies t.short bytes from long) _ _ (λ e. no_special list t s) (λ e. no_special list t s)
-    specials_stored (Count count) i = no_special list t s
-    specials_stored Bad i = no_special list t s
+    specials_stored (Some (Count count)) i = no_special list t s
+    specials_stored None i = no_special list t s
 
   all_specials : (lines : List (List ℕ)) (list : List (List ℕ)) (t : Tables) → Specials list t → Specials (list ++ specials_in lines) (stored_by t lines)
   all_specials [] list t s = no_special list t s

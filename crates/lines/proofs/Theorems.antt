@@ -8,6 +8,7 @@ use native.Mathlib.Omega.{arith}
 use lib.Dec.{ltb}
 use lib.ListN.{length, length-append}
 use borrow.Author.Tests.{ne_eqb, lt-leb, ltb-false}
+use Rattle.std.specs.Prelude.{Option, Ok}
 use Rattle.laws.proofs.Choices.{cond_cases}
 use Rattle.frames.specs.Bytes.{bytes_of, decodes}
 use Rattle.frames.specs.Frames.{frame_of}
@@ -17,7 +18,6 @@ use Rattle.frames.specs.declared.sequence.Reading.{Reading}
 use Rattle.stored.specs.Stored.{Tables, store_of}
 use Rattle.lines.specs.Lines.{line_bytes, line_frame, Stream, more, feed, feed_all}
 use Rattle.frames.specs.Order.{All, InOrder}
-use Rattle.frames.specs.declared.sequence.Ended.TheVariants.{Whole}
 use Rattle.frames.proofs.Theorems.{Fits, in_order_whole, whole_in_order}
 use Rattle.frames.proofs.Fitting.{line_fits}
 use Rattle.lines.proofs.Streaming.{stream}
@@ -75,7 +75,7 @@ abbrev pub AllLines : List (List ℕ) → Type 0
 AllLines [] = Unit {0}
 AllLines (line ∷ lines) = NoEnd line × AllLines lines
 
-abbrev pub frames_of : List (List ℕ) → List Frame
+abbrev pub frames_of : List (List ℕ) → List (Option Frame)
 frames_of [] = []
 frames_of (line ∷ lines) = line_frame line ∷ frames_of lines
 
@@ -102,7 +102,7 @@ lines_fit [] = tt
 lines_fit (line ∷ lines) = (line_fit line, lines_fit lines)
 
 -- Lines that the program takes for a whole input are frames in document 01's order.
-pub accepted_in_order : (lines : List (List ℕ)) → AllLines lines → (tables : Tables) → end_of (feed_all (stream begun_of tables []) (joined lines)).reading ≡ Whole → InOrder (frames_of lines)
+pub accepted_in_order : (lines : List (List ℕ)) → AllLines lines → (tables : Tables) → end_of (feed_all (stream begun_of tables []) (joined lines)).reading ≡ Ok tt → InOrder (frames_of lines)
 unfolding input_of
 accepted_in_order lines none tables h =
     whole_in_order (frames_of lines) (lines_fit lines)
@@ -110,7 +110,7 @@ accepted_in_order lines none tables h =
 
 -- And frames in that order, with no more words than a 04 can say, are a whole input.
 pub in_order_accepted : (lines : List (List ℕ)) → AllLines lines → (tables : Tables) (o : InOrder (frames_of lines)) → length o.words ≤ 4294967295
-    → end_of (feed_all (stream begun_of tables []) (joined lines)).reading ≡ Whole
+    → end_of (feed_all (stream begun_of tables []) (joined lines)).reading ≡ Ok tt
 unfolding input_of
 in_order_accepted lines none tables o h =
     ap (λ (s : Stream). end_of s.reading) (lines_fed lines none begun_of tables) ∙ in_order_whole (frames_of lines) o h

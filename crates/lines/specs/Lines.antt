@@ -1,10 +1,9 @@
 -- The input, byte by byte: document 01, "one frame a line, .. each line ended by 0a". Definitions only.
-use Rattle.std.specs.Prelude.{ℕ, ◌≤◌, ◌≡◌, cond, List, [], ◌∷◌, ◌++◌, eqb, ltb, length, take}
+use Rattle.std.specs.Prelude.{ℕ, ◌≤◌, ◌≡◌, cond, List, [], ◌∷◌, ◌++◌, eqb, ltb, length, take, Option, None}
 use Rattle.frames.specs.Bytes.{bytes_of, decodes}
 use Rattle.frames.specs.Frames.{frame_of}
 use Rattle.frames.specs.Sequence.{begun_of, step_of}
 use Rattle.frames.specs.declared.input.Frame.{Frame}
-use Rattle.frames.specs.declared.input.Frame.TheVariants.{Bad}
 use Rattle.frames.specs.declared.sequence.Reading.{Reading}
 use Rattle.stored.specs.Stored.{Tables, tables, nothing, store_of}
 use Rattle.lines.specs.declared.Input.{Input}
@@ -13,8 +12,8 @@ use Rattle.lines.specs.declared.Input.{Input}
 unfoldable pub line_bytes : List ℕ → List ℕ
 line_bytes line = cond (decodes line 265) (bytes_of line) []
 
--- the frame that a line is
-abbrev pub line_frame : List ℕ → Frame
+-- the frame that a line is, if it is one
+abbrev pub line_frame : List ℕ → Option Frame
 line_frame line = frame_of (line_bytes line)
 
 -- the lines that have ended, as far as they are in order; what they say; and what has come of the next one
@@ -61,7 +60,7 @@ begun_at = record { reading = begun_of; stored = nothing; used = 0 }
 
 -- at the end, a line that has begun has no 0a
 unfoldable pub last_of : Input → Input
-last_of input = cond (eqb input.used 0) input (record { reading = step_of input.reading Bad; stored = input.stored; used = 0 })
+last_of input = cond (eqb input.used 0) input (record { reading = step_of input.reading None; stored = input.stored; used = 0 })
 
 -- the buffer holds as much of a line as is told of it
 pub record Held (input : Input) (buffer : List ℕ) : Type 0 where

@@ -1,34 +1,34 @@
 -- What lines say: the words of their 03s, with their frequencies, and the specials of their 02s. Definitions only.
-use Rattle.std.specs.Prelude.{◌≡◌, List, [], ◌∷◌, ◌++◌, ℕ, ◌/◌, ◌≤◌, length}
+use Rattle.std.specs.Prelude.{◌≡◌, List, [], ◌∷◌, ◌++◌, ℕ, ◌/◌, ◌≤◌, length, Option, None, Some}
 use Rattle.std.proofs.lemmas.List.Edits.{sets}
 use Rattle.lattice.specs.Layout.{joined}
 use Rattle.copied.specs.Put.{PutsAll}
 use Rattle.frames.specs.declared.input.Frame.{Frame}
-use Rattle.frames.specs.declared.input.Frame.TheVariants.{Settings as First, Special, Word, Count, Bad}
+use Rattle.frames.specs.declared.input.Frame.TheVariants.{Settings as First, Special, Word, Count}
 use Rattle.stored.specs.Stored.{Texts, part}
 use Rattle.lines.specs.Lines.{line_bytes, line_frame}
 
--- ---- of one frame
-abbrev pub word_of : Frame → List ℕ → List (List ℕ)
-word_of (First settings specials) bytes = []
-word_of (Special from long) bytes = []
-word_of (Word frequency from long) bytes = part bytes from long ∷ []
-word_of (Count count) bytes = []
-word_of Bad bytes = []
+-- ---- of one line's frame, if it is one
+abbrev pub word_of : Option Frame → List ℕ → List (List ℕ)
+word_of (Some (First settings specials)) bytes = []
+word_of (Some (Special from long)) bytes = []
+word_of (Some (Word frequency from long)) bytes = part bytes from long ∷ []
+word_of (Some (Count count)) bytes = []
+word_of None bytes = []
 
-abbrev pub frequency_of : Frame → List ℕ
-frequency_of (First settings specials) = []
-frequency_of (Special from long) = []
-frequency_of (Word frequency from long) = frequency ∷ []
-frequency_of (Count count) = []
-frequency_of Bad = []
+abbrev pub frequency_of : Option Frame → List ℕ
+frequency_of (Some (First settings specials)) = []
+frequency_of (Some (Special from long)) = []
+frequency_of (Some (Word frequency from long)) = frequency ∷ []
+frequency_of (Some (Count count)) = []
+frequency_of None = []
 
-abbrev pub special_of : Frame → List ℕ → List (List ℕ)
-special_of (First settings specials) bytes = []
-special_of (Special from long) bytes = part bytes from long ∷ []
-special_of (Word frequency from long) bytes = []
-special_of (Count count) bytes = []
-special_of Bad bytes = []
+abbrev pub special_of : Option Frame → List ℕ → List (List ℕ)
+special_of (Some (First settings specials)) bytes = []
+special_of (Some (Special from long)) bytes = part bytes from long ∷ []
+special_of (Some (Word frequency from long)) bytes = []
+special_of (Some (Count count)) bytes = []
+special_of None bytes = []
 
 -- ---- of lines, in order
 abbrev pub words_in : List (List ℕ) → List (List ℕ)

@@ -8,11 +8,11 @@
 ghost use Rattle.std.specs.Prelude.{◌≡◌, List, ℕ, ◌≤◌, length, take};
 ghost use Rattle.lines.specs.Lines.{line_bytes, begun_at, Held, stream_of, end_line, feed, feed_all, last_of};
 
-use frames::{Decoded, Frame, Reading};
+use frames::Reading;
 use stored::{Stored, nothing, store};
 
 // How far the input is read: its frames, what they say, and how much of a line has come.
-#[derive(Clone, Copy)]
+#[derive(Clone, Copy, Debug, PartialEq)]
 pub struct Input {
     pub reading: Reading,
     pub stored: Stored,
@@ -31,15 +31,13 @@ pub fn begun() -> Input
 }
 
 // The bytes that the first so many of a line are, in front of a slice: how many. What is no frame has none.
+#[tactic(auto, unfolding(frames::specs::Bytes::decoded_of, frames::specs::Bytes::decoded_in, crate::specs::Lines::line_bytes))]
 fn line_bytes(line: &[u8], used: usize, bytes: &mut [u8]) -> usize
     requires used_in_bounds { used ≤ length line.now }
     requires bytes_len { length bytes.old ≡ 265 }
     ensures { (result ≤ 265) × (take result bytes.new ≡ line_bytes (take used line.now)) }
 {
-    match frames::decode(&line[..used], bytes) {
-        Decoded::Bad => 0,
-        Decoded::Bytes(n) => n,
-    }
+    frames::decode(&line[..used], bytes).unwrap_or(0)
 }
 
 // A line has ended.
@@ -56,14 +54,12 @@ fn line_end(
     ensures { (stream_of result line.now texts.new specials.new text.new words.new frequencies.new ≡ end_line (stream_of input line.now texts.old specials.old text.old words.old frequencies.old)) × (result.used ≡ 0) }
 {
     let mut bytes = [0u8; 265];
-    let reading = input.reading;
-    let stored = input.stored;
     let n = line_bytes(line, input.used, &mut bytes);
     let frame = frames::read(&bytes[..n]);
     Input {
-        reading: frames::step(reading, frame),
+        reading: frames::step(input.reading, frame),
         stored: store(
-            stored,
+            input.stored,
             frame,
             &bytes[..n],
             texts,
@@ -77,6 +73,7 @@ fn line_end(
 }
 
 // A byte of a line.
+#[tactic(auto, unfolding(crate::specs::Lines::feed))]
 fn line_more(input: Input, b: u8, line: &mut [u8]) -> Input
     requires held { Held input line.old }
     requires fact { b ≡ 10 → ⊥ }
@@ -84,16 +81,18 @@ fn line_more(input: Input, b: u8, line: &mut [u8]) -> Input
     ensures held_2 { Held result line.new }
 {
     let used = input.used;
-    let mut next = input;
     if line.len() <= used {
-        return next;
+        return input;
     }
     line[used] = b;
-    next.used = used + 1;
-    next
+    Input {
+        used: used + 1,
+        ..input
+    }
 }
 
 // A byte of the input.
+#[tactic(auto, unfolding(crate::specs::Lines::feed))]
 fn byte(
     input: Input,
     b: u8,
@@ -115,6 +114,7 @@ fn byte(
 }
 
 // A chunk of the input.
+#[tactic(auto, using(crate::proofs::Streaming::fed_none, crate::proofs::Streaming::fed_next, crate::proofs::Streaming::fed_all))]
 pub fn chunk(
     before: Input,
     got: &[u8],
@@ -130,32 +130,23 @@ pub fn chunk(
     ensures held { Held result line.new }
 {
     let mut input = before;
-    let mut i: usize = 0;
-    while i < got.len() {
-        input = byte(
-            input,
-            got[i],
-            line,
-            texts,
-            specials,
-            text,
-            words,
-            frequencies,
-        );
-        i += 1;
+    for &b in got {
+        input = byte(input, b, line, texts, specials, text, words, frequencies);
     }
     input
 }
 
 // The end of the input: a last line without its 0a breaks the rules.
+#[tactic(auto, unfolding(crate::specs::Lines::last_of))]
 pub fn last(input: Input) -> Input
     ensures { result ≡ last_of input }
 {
-    let mut next = input;
     if input.used == 0 {
-        return next;
+        return input;
     }
-    next.reading = frames::step(input.reading, Frame::Bad);
-    next.used = 0;
-    next
+    Input {
+        reading: frames::step(input.reading, None),
+        used: 0,
+        ..input
+    }
 }

@@ -1,8 +1,8 @@
 -- How far the scores are written. Assumes nothing.
-use Rattle.std.proofs.Common.{◌≡◌, ℕ, ◌+◌, ◌<◌, ◌≤◌, List, ◌++◌, map, length, get_or, drop, set, ap, ◌∙◌, ap₂, arith}
+use Rattle.std.proofs.Common.{◌≡◌, ℕ, ◌+◌, ◌<◌, ◌≤◌, List, ◌++◌, map, length, get_or, drop, set, refl, ap, ◌∙◌, ap₂, arith}
 use lib.Ieee.{Float, nan}
 use Rattle.ranking.specs.Scores.{seed_total, seed_score, seed_scores}
-use Rattle.ranks.proofs.Made.{Made, made_none, made_more, along}
+use Rattle.ranks.proofs.Made.{Made, made_more, along}
 
 -- those of the first k counts
 pub record Scored (counts : List ℕ) (before : List Float) (sum : Float) (k : ℕ) (scores : List Float) : Type 0 where
@@ -14,7 +14,7 @@ pub record Scored (counts : List ℕ) (before : List Float) (sum : Float) (k : �
 pub scored_none : (counts : List ℕ) (scores : List Float) (sum : Float) → sum ≡ seed_total counts → length counts ≤ length scores
     → Scored counts scores sum 0 scores
 scored_none counts scores sum e h =
-    record { total = e; room = h; upto = omega arith; made = made_none (λ (i : ℕ). seed_score sum (get_or counts i 0)) scores }
+    record { total = e; room = h; upto = omega arith; made = record { is = refl; long = refl; near = omega arith } }
 
 module _ {counts : List ℕ} {before : List Float} {sum : Float} {k : ℕ} {scores : List Float} (s : Scored counts before sum k scores) where
   pub scored_room : k < length counts → k < length scores

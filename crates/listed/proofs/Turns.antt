@@ -1,36 +1,13 @@
 -- How far the loops have come. Assumes nothing.
-use Rattle.std.proofs.Common.{◌≡◌, ℕ, ◌+◌, ◌-◌, ◌*◌, ◌<◌, ◌≤◌, List, length, get_or, take, set, sym, refl, ap, ◌∙◌, subst, ap₂, add-one, arith, length-set, take_all, get_or-set_other, take-suc, get_or-set_same, le-ltb, lt-ltb, eq-eqb, ne_eqb}
+use Rattle.std.proofs.Common.{◌≡◌, ℕ, ◌+◌, ◌-◌, ◌*◌, ◌<◌, ◌≤◌, List, length, get_or, take, set, sym, refl, ap, ◌∙◌, subst, add-one, arith, length-set, get_or-set_other, take-suc, get_or-set_same}
 use native.Mathlib.Decide.{dec_lt}
 use lib.Ieee.{Float}
-use Rattle.positions.specs.Positions.{at, word}
+use Rattle.positions.specs.Positions.{at}
 use Rattle.spans.specs.Spans.{many, from, bytes}
 use Rattle.math.specs.Steps.{◌⊕◌, zero}
 use Rattle.ranking.specs.Scores.{float, seed_total}
 use Rattle.ranking.proofs.Scores.{sum_more}
 use Rattle.listed.specs.Spelled.{end_of, position_of, length_of, Ending, Cutting, Spelling, Cut, Spelled}
-
--- ---- where a piece ends: k is the word of p, `last` its end, `other` the word of the position after the piece
-module _ (words places : List ℕ) (n p l k : ℕ) (w : k ≡ word places p) where
-  whole : {f b : ℕ} → f ≡ from words k → b ≡ bytes words k → f + b ≡ from words (word places p) + bytes words (word places p)
-  whole d e = rw (d, e, w)
-
-  pub end_past : {f b : ℕ} → f ≡ from words k → b ≡ bytes words k → n ≤ p + l → f + b ≡ end_of words places n p l
-  end_past d e h = rw (le-ltb (p + l) n h) (whole d e)
-
-  module _ (other : ℕ) (o : other ≡ word places (p + l)) (h : p + l < n) where
-    pub end_other : {f b : ℕ} → f ≡ from words k → b ≡ bytes words k → (other ≡ k → ⊥) → f + b ≡ end_of words places n p l
-    end_other d e g =
-        rw (lt-ltb (p + l) n h, ne_eqb (word places (p + l)) (word places p) (λ i. g (o ∙ i ∙ sym w))) (whole d e)
-
-    pub end_same : {a : ℕ} → a ≡ at places (p + l) → other ≡ k → a ≡ end_of words places n p l
-    end_same d g = rw (lt-ltb (p + l) n h, eq-eqb (word places (p + l)) (word places p) (sym o ∙ g ∙ w)) d
-
--- ---- one piece
-pub cut_is : (words places : List ℕ) (n : ℕ) (pieces : List ℕ) (i low high : ℕ) → low ≡ at places (position_of pieces i)
-    → high ≡ end_of words places n (position_of pieces i) (length_of pieces i)
-    → Cut words places n pieces i (set (set pieces (2 * i) low) (2 * i + 1) (high - low))
-cut_is words places n pieces i low high d e =
-    record { is = ap₂ (λ (a b : ℕ). set (set pieces (2 * i) a) (2 * i + 1) (b - a)) d e }
 
 -- ---- the first k pieces are written
 pub record Upto (words places : List ℕ) (n : ℕ) (before : List ℕ) (k : ℕ) (pieces : List ℕ) : Type 0 where
@@ -116,12 +93,3 @@ total_more counts k sum h e =
     ap (λ (s : Float). s ⊕ float (get_or counts k 0)) e
     ∙ sym (sum_more zero (take k counts) (get_or counts k 0))
     ∙ ap seed_total (sym (take-suc counts k 0 h) ∙ ap (λ (m : ℕ). take m counts) (sym (add-one k)))
-
-pub total_all : (counts : List ℕ) (k : ℕ) (sum : Float) → length counts ≤ k → sum ≡ seed_total (take k counts)
-    → sum ≡ seed_total counts
-total_all counts k sum h e = e ∙ ap seed_total (take_all k counts h)
-
-pub end_fits : {words places : List ℕ} {n p l k f b : ℕ} → Ending words places n p l → k ≡ word places p → f ≡ from words k
-    → b ≡ bytes words k → f + b < 4294967296
-end_fits {words} {places} {n} {p} {l} {k} {f} {b} a w d e =
-    subst (λ (s : ℕ). s < 4294967296) (sym (ap₂ (λ (x y : ℕ). x + y) d e ∙ ap (λ (x : ℕ). from words x + bytes words x) w)) a.small

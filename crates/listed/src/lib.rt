@@ -13,6 +13,7 @@ ghost use Rattle.listed.specs.Spelled.{end_of, Ending, Cutting, Spelling, Cut, S
 
 use math::ln;
 use positions::{at, word};
+use std::num::nearest_u64_to_f64;
 
 // The byte after the first l characters of position p's text. There are n positions.
 fn end(words: &[u32], places: &[u32], n: usize, p: usize, l: usize) -> usize
@@ -20,15 +21,12 @@ fn end(words: &[u32], places: &[u32], n: usize, p: usize, l: usize) -> usize
     ensures { result ≡ end_of words.now places.now n p l }
 {
     let k = word(places, p);
-    let last = spans::from(words, k) + spans::bytes(words, k);
     let next = p + l;
-    if next >= n {
-        return last;
+    if next < n && word(places, next) == k {
+        at(places, next)
+    } else {
+        spans::from(words, k) + spans::bytes(words, k)
     }
-    if word(places, next) != k {
-        return last;
-    }
-    at(places, next)
 }
 
 // Writes piece i, a position and a length, as bytes of the text.
@@ -49,23 +47,18 @@ pub fn spell(words: &[u32], places: &[u32], n: usize, pieces: &mut [u32])
     requires { Spelling words.now places.now n pieces.old }
     ensures { Spelled words.now places.now n pieces.old pieces.new }
 {
-    let many = spans::count(pieces);
-    let mut i = 0;
-    while i < many {
+    for i in 0..spans::count(pieces) {
         cut(words, places, n, pieces, i);
-        i += 1;
     }
 }
 
-// The sum of the counts, in the list's order.
+// The sum of the counts, in the list's order, from +0: the library's sum of floats begins at -0.
 fn total(counts: &[u64]) -> f64
     ensures { result ≡ seed_total counts.now }
 {
     let mut sum = 0.0;
-    let mut i = 0;
-    while i < counts.len() {
-        sum += std::num::nearest_u64_to_f64(counts[i]);
-        i += 1;
+    for &count in counts {
+        sum += nearest_u64_to_f64(count);
     }
     sum
 }
@@ -74,7 +67,7 @@ fn total(counts: &[u64]) -> f64
 fn score(total: f64, count: u64) -> f64
     ensures { result ≡ seed_score total count }
 {
-    ln(std::num::nearest_u64_to_f64(count) / total)
+    ln(nearest_u64_to_f64(count) / total)
 }
 
 // Writes the score of each count, and keeps the slots behind them.
@@ -83,9 +76,7 @@ pub fn score_all(counts: &[u64], scores: &mut [f64])
     ensures { scores.new ≡ seed_scores counts.now ++ drop (length counts.now) scores.old }
 {
     let sum = total(counts);
-    let mut i = 0;
-    while i < counts.len() {
+    for i in 0..counts.len() {
         scores[i] = score(sum, counts[i]);
-        i += 1;
     }
 }

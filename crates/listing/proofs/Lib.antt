@@ -1,4 +1,3 @@
-pub mod Bytes
 pub mod Checking
 pub mod Words
 pub mod Listing

@@ -5,18 +5,14 @@ use Prim.Native.Nat.{ℕ, ◌*◌, ◌/◌, ◌≤◌, ◌^◌, min}
 use native.Mathlib.Omega.{arith}
 use lib.ListN.{length, take}
 use lib.Seq.{length-take-le}
-use lib.Ieee.{Float}
 use Rattle.spans.specs.Spans.{many}
 use Rattle.positions.specs.Gathered.{bytes_before}
-use Rattle.settings.specs.declared.Settings.{Settings}
 use Rattle.corpus.specs.Kept as words
 use Rattle.corpus.proofs.Chosen.{chosen_few}
 use Rattle.corpus.proofs.Theorems.{kept_front, kept_corpus, ready}
-use Rattle.ranking.specs.Corpus.{Corpus, weight}
+use Rattle.ranking.specs.Corpus.{weight}
 use Rattle.seed.specs.Seed as seed
-use Rattle.seed.specs.declared.Answer.{Answer}
-use Rattle.seed.specs.declared.Answer.TheVariants.{Listed, NoRoom}
-use Rattle.listing.specs.Start.{positions_of}
+use Rattle.listing.specs.Start.{Lent, positions_of, corpus}
 use Rattle.listing.specs.Steps.{Listing}
 use Rattle.listing.proofs.Words.{cut_many, cut_good, cut_words, same_weight, kept_bytes}
 
@@ -54,10 +50,10 @@ roomy chars places order work ranks {m} h =
     thrice : (m n : ℕ) → m ≤ n / 3 → 3 * m ≤ n
     thrice m n h = omega arith
 
-module _ (settings : Settings) (text lent frequencies kept counts chars places order work ranks : List ℕ) (l : Listing settings text lent frequencies kept counts chars places order work ranks)
-    {kept' counts' : List ℕ} {r : ℕ} (k : words.Kept text lent frequencies (many lent) kept counts kept' counts' r) (same : length kept' ≡ length kept) (even : length counts' ≡ length counts) where
-  pub few : r ≤ many lent
-  few = let c = k.count in let h = chosen_few text lent (many lent) in omega arith
+module _ {x : Lent} {kept counts chars places order work ranks : List ℕ} (l : Listing x kept counts chars places order work ranks)
+    {kept' counts' : List ℕ} {r : ℕ} (k : words.Kept x.text x.words x.frequencies (many x.words) kept counts kept' counts' r) (same : length kept' ≡ length kept) (even : length counts' ≡ length counts) where
+  pub few : r ≤ many x.words
+  few = let c = k.count in let h = chosen_few x.text x.words (many x.words) in omega arith
 
   pub spans_in : 2 * r ≤ length kept'
   spans_in = let h = l.bounded.kept_room in let f = few in omega arith
@@ -65,23 +61,23 @@ module _ (settings : Settings) (text lent frequencies kept counts chars places o
   pub counts_in : r ≤ length counts'
   counts_in = let h = l.bounded.counts_room in let f = few in omega arith
 
-  pub corpus_is : seed.corpus_of text (take (2 * r) kept') (take r counts') ≡ words.corpus_of text lent frequencies
-  corpus_is = cut_words kept' r spans_in text counts' ∙ kept_corpus k
+  pub corpus_is : seed.corpus_of x.text (take (2 * r) kept') (take r counts') ≡ corpus x
+  corpus_is = cut_words kept' r spans_in x.text counts' ∙ kept_corpus k
 
   bytes_in : bytes_before (take (2 * r) kept') (many (take (2 * r) kept')) ≤ positions_of chars places order work ranks
   bytes_in =
-      let e : bytes_before (take (2 * r) kept') (many (take (2 * r) kept')) ≡ bytes_before (words.spans_at lent (words.chosen text lent (many lent))) (length (words.chosen text lent (many lent))) =
+      let e : bytes_before (take (2 * r) kept') (many (take (2 * r) kept')) ≡ bytes_before (words.spans_at x.words (words.chosen x.text x.words (many x.words))) (length (words.chosen x.text x.words (many x.words))) =
       ap₂ bytes_before (kept_front k) (cut_many kept' r spans_in ∙ k.count) in
-      let h = kept_bytes text lent (many lent) in
+      let h = kept_bytes x.text x.words (many x.words) in
       let b = l.bounded.words_room in
       omega arith
 
-  light : weight (seed.corpus_of text (take (2 * r) kept') (take r counts')) ≤ 2 ^ 48
+  light : weight (seed.corpus_of x.text (take (2 * r) kept') (take r counts')) ≤ 2 ^ 48
   light =
-      subst (λ (n : ℕ). n ≤ 2 ^ 48) (sym (ap weight (cut_words kept' r spans_in text counts') ∙ same_weight (words.words_of text kept' counts' r)))
+      subst (λ (n : ℕ). n ≤ 2 ^ 48) (sym (ap weight (cut_words kept' r spans_in x.text counts') ∙ same_weight (words.words_of x.text kept' counts' r)))
       (ready k l.words_fit).light
 
-  pub asked : seed.Asked text (take (2 * r) kept') (take r counts') settings.max_piece_chars chars places order work ranks
+  pub asked : seed.Asked x.text (take (2 * r) kept') (take r counts') x.settings.max_piece_chars chars places order work ranks
   asked =
       let m = cut_many kept' r spans_in in
       let b = l.bounded in
@@ -107,17 +103,3 @@ module _ (settings : Settings) (text lent frequencies kept counts chars places o
         work_room = room.in_work;
         keys_room = room.in_ranks;
       }
-
-  -- ---- what the list answers, said of the lent words
-  module _ (least pool pool' slots : ℕ) (pieces tallies : List ℕ) (scores : List Float) (pool-is : pool ≡ pool') (a : Answer)
-      (answers : seed.Answers text (seed.corpus_of text (take (2 * r) kept') (take r counts')) settings.max_piece_chars least pool slots pieces tallies scores a) where
-    told : seed.Answers text (words.corpus_of text lent frequencies) settings.max_piece_chars least pool' slots pieces tallies scores a
-    told =
-        subst (λ (n : ℕ). seed.Answers text (words.corpus_of text lent frequencies) settings.max_piece_chars least n slots pieces tallies scores a) pool-is
-        (subst (λ (c : Corpus). seed.Answers text c settings.max_piece_chars least pool slots pieces tallies scores a) corpus_is answers)
-
-    pub exceeds : a ≡ NoRoom → seed.Exceeds (words.corpus_of text lent frequencies) settings.max_piece_chars least slots
-    exceeds e = subst (seed.Answers text (words.corpus_of text lent frequencies) settings.max_piece_chars least pool' slots pieces tallies scores) e told
-
-    pub lists : (required many' : ℕ) → a ≡ Listed required many' → seed.Lists text (words.corpus_of text lent frequencies) settings.max_piece_chars least pool' slots pieces tallies scores required many'
-    lists required many' e = subst (seed.Answers text (words.corpus_of text lent frequencies) settings.max_piece_chars least pool' slots pieces tallies scores) e told

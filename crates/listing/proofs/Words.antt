@@ -1,4 +1,5 @@
 -- The words that are kept, as the list needs them. Assumes nothing.
+use Rattle.std.specs.Prelude.{Result, Ok, Err}
 use mathlib.Core.Path.{◌≡◌, refl, sym, ap, ap₂, ◌∙◌, subst}
 use mathlib.Core.List.{List, [], ◌∷◌, ◌++◌}
 use Prim.Native.Nat.{ℕ, zero, suc, ◌+◌, ◌*◌, ◌≤◌, ◌<◌}
@@ -7,8 +8,6 @@ use lib.ListN.{length, get_or, take, drop, length-append, get_or-append}
 use lib.Seq.{get_or-take, get_or-append-add, length-take-le}
 use Rattle.utf8.specs.Encode.{Spells}
 use Rattle.utf8.specs.Chars.{measured, chars_of}
-use Rattle.utf8.specs.declared.Text.{Text}
-use Rattle.utf8.specs.declared.Text.TheVariants.{Chars, BadAt}
 use Rattle.spans.specs.Spans.{many, from, bytes, octets, chars_at, first}
 use Rattle.spans.specs.Check.{Good, AllGood}
 use Rattle.positions.specs.Gathered.{bytes_before}
@@ -77,9 +76,9 @@ one_more words ks k =
     ∙ ap₂ (λ (a b : ℕ). a + b) (front_bytes s t (length ks) (omega arith))
     (ap (λ (j : ℕ). get_or (s ++ t) j 0) i ∙ get_or-append-add s t 1 0)
 
-pick_bytes : (words ks : List ℕ) (n all : ℕ) (t : Text) → bytes_before (spans_at words ks) (length ks) ≤ all → bytes_before (spans_at words (pick t n ks)) (length (pick t n ks)) ≤ all + bytes words n
-pick_bytes words ks n all (Chars c) h = let e = one_more words ks n in omega arith
-pick_bytes words ks n all (BadAt b) h = omega arith
+pick_bytes : (words ks : List ℕ) (n all : ℕ) (t : Result ℕ ℕ) → bytes_before (spans_at words ks) (length ks) ≤ all → bytes_before (spans_at words (pick t n ks)) (length (pick t n ks)) ≤ all + bytes words n
+pick_bytes words ks n all (Ok c) h = let e = one_more words ks n in omega arith
+pick_bytes words ks n all (Err b) h = omega arith
 
 pub kept_bytes : (text words : List ℕ) (n : ℕ) → bytes_before (spans_at words (chosen text words n)) (length (chosen text words n)) ≤ bytes_before words n
 kept_bytes text words zero = omega arith

@@ -1,6 +1,6 @@
 -- What training is lent, when it is refused before 8, and its seed list: document 01's table, rows 2 to 7, and port order 8.
 -- Definitions only.
-use Rattle.std.specs.Prelude.{List, ℕ, ◌*◌, ◌/◌, ◌≤◌, min, length, Float}
+use Rattle.std.specs.Prelude.{List, ℕ, ◌*◌, ◌/◌, ◌≤◌, min, length, take, Float, Result, Ok, Err}
 use Rattle.refusal.specs.declared.Refusal.{Refusal}
 use Rattle.refusal.specs.declared.Refusal.TheVariants.{NoRoom}
 use Rattle.spans.specs.Spans.{many}
@@ -12,10 +12,8 @@ use Rattle.corpus.specs.Check.{InOrder, Why as BadWords}
 use Rattle.corpus.specs.Kept.{corpus_of, Kept}
 use Rattle.ranking.specs.Corpus.{Corpus}
 use Rattle.seed.specs.Seed.{slots_of, Lists as SeedLists, Exceeds}
-use Rattle.listing.specs.declared.Checked.{Checked}
-use Rattle.listing.specs.declared.Checked.TheVariants.{Fine, Refused as Denied}
-use Rattle.listing.specs.declared.Started.{Started}
-use Rattle.listing.specs.declared.Started.TheVariants.{Seeded, Refused}
+use Rattle.listing.specs.declared.Lent.{Lent as Slices}
+use Rattle.listing.specs.declared.Seeded.{Seeded}
 
 -- a word has two numbers and a frequency; the shorter list counts
 abbrev pub count_of : List ℕ → List ℕ → ℕ
@@ -29,6 +27,22 @@ pub record Lent : Type 0 where
   pub text : List ℕ
   pub words : List ℕ
   pub frequencies : List ℕ
+
+-- the lists that its slices are
+abbrev pub lists_of : Slices → Lent
+lists_of x = record { settings = x.settings; texts = x.texts.now; specials = x.specials.now; text = x.text.now; words = x.words.now; frequencies = x.frequencies.now }
+
+-- the same with as many words as frequencies
+abbrev pub paired_of : Lent → Lent
+paired_of x =
+    record {
+      settings = x.settings;
+      texts = x.texts;
+      specials = x.specials;
+      text = x.text;
+      words = take (2 * (count_of x.words x.frequencies)) x.words;
+      frequencies = take (count_of x.words x.frequencies) x.frequencies;
+    }
 
 -- what is lent to write in, and what is read of it later
 pub record Work : Type 0 where
@@ -90,9 +104,9 @@ pub record Fit (x : Lent) (Room : Type 0) : Type 0 where
   pub room : Room
   pub words_fit : InOrder x.text x.words x.frequencies
 
-abbrev pub Checks : Lent → Type 0 → Checked → Type 0
-Checks x Room Fine = Fit x Room
-Checks x Room (Denied refusal) = Bad x Room refusal
+abbrev pub Checks : Lent → Type 0 → Result (Unit {0}) Refusal → Type 0
+Checks x Room (Ok _) = Fit x Room
+Checks x Room (Err refusal) = Bad x Room refusal
 
 -- ---- then 7 at 1
 pub data Why (x : Lent) (w : Work) : Refusal → Type 0 where
@@ -105,6 +119,6 @@ pub record Given (x : Lent) (w : Work) (y : Left) (words pieces required : ℕ) 
   pub words_are : Kept x.text x.words x.frequencies (many x.words) w.kept w.counts y.kept y.counts words
   pub list : SeedLists x.text (corpus x) x.settings.max_piece_chars x.settings.min_frequency (pool x) (slots w) y.pieces y.tallies y.scores required pieces
 
-abbrev pub Answers : Lent → Work → Left → Started → Type 0
-Answers x w y (Seeded words pieces required) = Given x w y words pieces required
-Answers x w y (Refused refusal) = Why x w refusal
+abbrev pub Answers : Lent → Work → Left → Result Seeded Refusal → Type 0
+Answers x w y (Ok seeded) = Given x w y seeded.words seeded.pieces seeded.required
+Answers x w y (Err refusal) = Why x w refusal

@@ -1,10 +1,15 @@
 -- What the choices of a loss come to. Assumes nothing.
-use mathlib.Core.Path.{◌≡◌, sym, ap, ◌∙◌}
+use mathlib.Core.Path.{◌≡◌, refl, sym, ap, ◌∙◌}
 use mathlib.Core.Bool.{Bool, true, false, cond}
-use lib.Ieee.{Float, inf, lt, eq}
+use lib.Ieee.{Float, inf, binary64, of_bits, lt, eq}
 use lib.Ieee.Scale.{finite}
 use Rattle.math.specs.Steps.{◌⊖◌, ◌⊗◌, zero as nought}
 use Rattle.losses.specs.Losses.{larger, penalty, loss}
+
+-- plus infinity as the code has it
+pub infinite : of_bits binary64 9218868437227405312 ≡ inf false
+unfolding of_bits
+infinite = refl
 
 -- ---- the penalty
 module _ (score other : Float) where

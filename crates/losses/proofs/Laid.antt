@@ -16,7 +16,6 @@ use Rattle.lattice.specs.Written.{over, Written}
 use Rattle.lattice.proofs.Joined.{offsets_long}
 use Rattle.formed.proofs.Built.{length_rows}
 use Rattle.trie.proofs.Same.{length_first}
-use Rattle.rows.specs.Word.{Room}
 use Rattle.builder.specs.Lay.{Building, Builds}
 use Rattle.builder.specs.declared.Sizes.{Sizes}
 use Rattle.retain.proofs.Held.{same_many}
@@ -60,6 +59,12 @@ module _ (pieces : List ℕ) (id : ℕ) where
       none : (k : ℕ) → suc k < 1 → ⊥
       none k l = omega arith
 
+-- what is known of slices that hold the lattice of a piece's text
+pub record Spelt (text pieces : List ℕ) (setting : ℕ) (scores : List Float) (id : ℕ) (offs starts ids : List ℕ) (edges n : ℕ) : Type 0 where
+  pub short : n ≤ 255
+  pub well_formed : WellFormed (take (n + 2) offs) (take edges starts) (take edges ids) scores n
+  pub exact : (r : Float) → r ≡ best f64s (lattice_of (take (n + 2) offs) (take edges starts) (take edges ids) (without id scores)) n → r ≡ alternative setting (listed text pieces) (chars_at text pieces id) scores id
+
 module _ {text pieces : List ℕ} {setting : ℕ} {keys ends : List ℕ} {scores : List Float} (x : Lent text pieces setting keys ends scores) (id : ℕ) (l : id < many pieces) where
   abbrev word : List ℕ
   word = chars_at text pieces id
@@ -68,9 +73,6 @@ module _ {text pieces : List ℕ} {setting : ℕ} {keys ends : List ℕ} {scores
   rows = lattice setting (listed text pieces) word
 
   -- ---- there are slots for it: so many as any text of 255 bytes can have
-  pub walk_room : {chars grid : List ℕ} → 255 ≤ length chars → 8160 ≤ length grid → Room keys ends setting chars grid
-  walk_room a b = record { few = x.few; level = x.holds.level; narrow = x.narrow; room = a; wide = b }
-
   module _ (offs starts ids spans : List ℕ) (a : 257 ≤ length offs) (b : 8160 ≤ length starts) (c : 8160 ≤ length ids) (d : 4 ≤ length spans) where
     abbrev slots : Results
     slots = record { offsets = offs; starts = starts; ids = ids; spans = spans }
@@ -115,14 +117,6 @@ module _ {text pieces : List ℕ} {setting : ℕ} {keys ends : List ℕ} {scores
       count_is : so.edges ≡ length (joined rows)
       count_is = written.edges ∙ length-map (joined (joined (rows ∷ []))) (λ e. e.id) ∙ ap length its_edges
 
-      pub edges_in : (so.edges ≤ length starts) × (so.edges ≤ length ids)
-      edges_in =
-          let e = written.edges in
-          let same = same_many (rows ∷ []) in
-          let s = room.in_starts in
-          let i = room.in_ids in
-          (omega arith, omega arith)
-
       many_rows : length rows ≡ suc (length word)
       many_rows = length_rows (ending setting (listed text pieces) word) (suc (length word))
 
@@ -148,7 +142,7 @@ module _ {text pieces : List ℕ} {setting : ℕ} {keys ends : List ℕ} {scores
         here : n ≡ length word
         here = is ∙ n_is
 
-        pub short : n ≤ 255
+        short : n ≤ 255
         short = let h = here in let f = few_chars in omega arith
 
         offsets_are : take (n + 2) offs' ≡ offsets rows
@@ -171,13 +165,16 @@ module _ {text pieces : List ℕ} {setting : ℕ} {keys ends : List ℕ} {scores
             (subst (λ (k : List ℕ). F (take (n + 2) offs') k (map (λ e. e.id) (joined rows)) (length word)) (sym starts_are)
             (subst (λ (k : List ℕ). F k (map (λ e. e.start) (joined rows)) (map (λ e. e.id) (joined rows)) (length word)) (sym offsets_are) f)))
 
-        pub well_formed : WellFormed (take (n + 2) offs') (take so.edges starts') (take so.edges ids') scores n
+        well_formed : WellFormed (take (n + 2) offs') (take so.edges starts') (take so.edges ids') scores n
         well_formed =
             let p : length (listed text pieces) ≤ length scores = let e = length_first (chars_at text pieces) (many pieces) in let h = x.scored in omega arith in
             moved (λ a b c m. WellFormed a b c scores m) (built_exact setting (listed text pieces) word scores p)
 
-        pub is_alternative : (r : Float) → r ≡ best f64s (lattice_of (take (n + 2) offs') (take so.edges starts') (take so.edges ids') (without id scores)) n
+        is_alternative : (r : Float) → r ≡ best f64s (lattice_of (take (n + 2) offs') (take so.edges starts') (take so.edges ids') (without id scores)) n
             → r ≡ alternative setting (listed text pieces) word scores id
         unfolding alternative
         is_alternative r e =
             e ∙ moved (λ a b c m. best f64s (lattice_of a b c (without id scores)) m ≡ best f64s (lattice_of (offsets rows) (map (λ g. g.start) (joined rows)) (map (λ g. g.id) (joined rows)) (without id scores)) (length word)) refl
+
+        pub spelt : Spelt text pieces setting scores id offs' starts' ids' so.edges n
+        spelt = record { short = short; well_formed = well_formed; exact = is_alternative }

@@ -18,13 +18,3 @@ pub record Given (text pieces : List ℕ) (setting : ℕ) (keys ends : List ℕ)
   pub lent : Lent text pieces setting keys ends scores
   pub used : length uses ≡ many pieces
   pub slots : length bits ≡ many pieces
-
--- as many work slots as any text of 255 bytes can want: 32 edges a character
-pub record Work (chars grid offsets starts ids place best : ℕ) : Type 0 where
-  pub characters : 255 ≤ chars
-  pub cells : 8160 ≤ grid
-  pub ends : 257 ≤ offsets
-  pub edge_starts : 8160 ≤ starts
-  pub edge_ids : 8160 ≤ ids
-  pub span : 4 ≤ place
-  pub sums : 256 ≤ best

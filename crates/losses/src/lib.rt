@@ -7,142 +7,95 @@
 // Losses are given by their bits, which order as the losses do: proofs/Theorems.antt.
 #![tactic(auto)]
 
-ghost use Rattle.std.specs.Prelude.{◌≡◌, true, false, ◌<◌, length, get_or};
-ghost use Rattle.std.specs.Float.{nan, inf};
+ghost use Rattle.std.specs.Prelude.{◌≡◌, ◌<◌, length, get_or};
+ghost use Rattle.std.specs.Float.{nan};
 ghost use Rattle.spans.specs.Spans.{many, chars_at, listed};
 ghost use Rattle.losses.specs.Losses as Losses;
-ghost use Rattle.losses.specs.Steps.{Lent, Given, Work};
+ghost use Rattle.losses.specs.Steps.{Lent, Given};
 
 use builder::build_words;
-use floats::{highest, is_finite};
-use formed::read;
+use formed::{Lattice, read};
 use viterbi::excluding_core;
 
 // What each use of a piece would cost: nothing where the alternative is as good.
 fn penalty(score: f64, other: f64) -> f64
     ensures { result ≡ Losses.penalty score other }
 {
-    let none = highest();
-    if !is_finite(other) {
-        return none;
+    if !other.is_finite() {
+        return f64::INFINITY;
     }
     let more = score - other;
+    // "+0 for either zero": of two zeros, `max` promises neither.
     if more > 0.0 { more } else { 0.0 }
 }
 
-// The best score of a piece's text without the piece.
-fn alternative(
-    text: &[u8],
-    pieces: &[u32],
-    setting: usize,
-    keys: &[u64],
-    ends: &[u32],
-    scores: &[f64],
-    chars: &mut [u32],
-    grid: &mut [u32],
-    offsets: &mut [u32],
-    starts: &mut [u32],
-    ids: &mut [u32],
-    place: &mut [u32],
-    best: &mut [f64],
-    id: usize,
-) -> f64
-    requires lent { Lent text.now pieces.now setting keys.now ends.now scores.now × (id < many pieces.now) }
-    requires work { Work (length chars.old) (length grid.old) (length offsets.old) (length starts.old) (length ids.old) (length place.old) (length best.old) }
-    ensures { result ≡ Losses.alternative setting (listed text.now pieces.now) (chars_at text.now pieces.now id) scores.now id }
-{
-    let from = 2 * id;
-    let past = from + 2;
-    let so = build_words(
-        keys,
-        ends,
-        text,
-        &pieces[from..past],
-        setting,
-        chars,
-        grid,
-        offsets,
-        starts,
-        ids,
-        place,
-    );
-    let edges = so.edges;
-    let n = read(place, 3);
-    let stop = n + 2;
-    let piece = id as u32;
-    excluding_core(
-        &offsets[..stop],
-        &starts[..edges],
-        &ids[..edges],
-        scores,
-        piece,
-        best,
-        n,
-    )
+// Slots for the lattice of one piece's text, which has at most 255 bytes and 32 edges a character, and for the sums over it.
+#[derive(Drop)]
+struct Work {
+    chars: [u32; 255],
+    grid: [u32; 8160],
+    offsets: [u32; 257],
+    starts: [u32; 8160],
+    ids: [u32; 8160],
+    place: [u32; 4],
+    best: [f64; 256],
 }
 
-// The loss of one piece.
-fn loss(
-    text: &[u8],
-    pieces: &[u32],
+// Pieces inside their text, each with a score, and the trie of them.
+#[derive(Clone, Copy)]
+struct Scored<'a> {
+    text: &'a [u8],
+    pieces: &'a [u32],
     setting: usize,
-    keys: &[u64],
-    ends: &[u32],
-    scores: &[f64],
-    used: f64,
-    chars: &mut [u32],
-    grid: &mut [u32],
-    offsets: &mut [u32],
-    starts: &mut [u32],
-    ids: &mut [u32],
-    place: &mut [u32],
-    best: &mut [f64],
-    id: usize,
-) -> f64
-    requires lent { Lent text.now pieces.now setting keys.now ends.now scores.now × (id < many pieces.now) }
-    requires work { Work (length chars.old) (length grid.old) (length offsets.old) (length starts.old) (length ids.old) (length place.old) (length best.old) }
-    ensures { result ≡ Losses.loss used (get_or scores.now id nan) (Losses.alternative setting (listed text.now pieces.now) (chars_at text.now pieces.now id) scores.now id) }
-{
-    if used == 0.0 {
-        return 0.0;
-    }
-    let other = alternative(
-        text, pieces, setting, keys, ends, scores, chars, grid, offsets, starts, ids, place, best,
-        id,
-    );
-    used * penalty(scores[id], other)
+    keys: &'a [u64],
+    ends: &'a [u32],
+    scores: &'a [f64],
 }
 
-// The losses of all pieces, in work slices that are lent.
-fn put_losses(
-    text: &[u8],
-    pieces: &[u32],
-    setting: usize,
-    keys: &[u64],
-    ends: &[u32],
-    scores: &[f64],
-    uses: &[f64],
-    bits: &mut [u64],
-    chars: &mut [u32],
-    grid: &mut [u32],
-    offsets: &mut [u32],
-    starts: &mut [u32],
-    ids: &mut [u32],
-    place: &mut [u32],
-    best: &mut [f64],
-)
-    requires given { Given text.now pieces.now setting keys.now ends.now scores.now uses.now bits.old }
-    requires work { Work (length chars.old) (length grid.old) (length offsets.old) (length starts.old) (length ids.old) (length place.old) (length best.old) }
-    ensures { bits.new ≡ Losses.bits_of (Losses.losses_of setting (listed text.now pieces.now) scores.now uses.now) }
-{
-    let mut id = 0;
-    while id < bits.len() {
-        let cost = loss(
-            text, pieces, setting, keys, ends, scores, uses[id], chars, grid, offsets, starts, ids,
-            place, best, id,
+impl Scored<'_> {
+    // The best score of a piece's text without the piece.
+    fn alternative(&self, work: &mut Work, id: usize) -> f64
+        requires { Lent self.now.text.now self.now.pieces.now self.now.setting self.now.keys.now self.now.ends.now self.now.scores.now × (id < many self.now.pieces.now) }
+        ensures { result ≡ Losses.alternative self.now.setting (listed self.now.text.now self.now.pieces.now) (chars_at self.now.text.now self.now.pieces.now id) self.now.scores.now id }
+    {
+        let from = 2 * id;
+        let past = from + 2;
+        let so = build_words(
+            self.keys,
+            self.ends,
+            self.text,
+            &self.pieces[from..past],
+            self.setting,
+            &mut work.chars,
+            &mut work.grid,
+            &mut work.offsets,
+            &mut work.starts,
+            &mut work.ids,
+            &mut work.place,
         );
-        bits[id] = math::bits(cost);
-        id += 1;
+        let edges = so.edges;
+        let n = read(&work.place, 3);
+        let stop = n + 2;
+        let piece = id as u32;
+        let lattice = Lattice {
+            offsets: &work.offsets[..stop],
+            starts: &work.starts[..edges],
+            ids: &work.ids[..edges],
+            n,
+        };
+        excluding_core(&lattice, self.scores, piece, &mut work.best)
+    }
+
+    // The loss of one piece.
+    fn loss(&self, used: f64, work: &mut Work, id: usize) -> f64
+        requires { Lent self.now.text.now self.now.pieces.now self.now.setting self.now.keys.now self.now.ends.now self.now.scores.now × (id < many self.now.pieces.now) }
+        ensures { result ≡ Losses.loss used (get_or self.now.scores.now id nan) (Losses.alternative self.now.setting (listed self.now.text.now self.now.pieces.now) (chars_at self.now.text.now self.now.pieces.now id) self.now.scores.now id) }
+    {
+        if used == 0.0 {
+            return 0.0;
+        }
+        let other = self.alternative(work, id);
+        used * penalty(self.scores[id], other)
     }
 }
 
@@ -160,28 +113,25 @@ pub fn losses(
     requires { Given text.now pieces.now setting keys.now ends.now scores.now uses.now bits.old }
     ensures { bits.new ≡ Losses.bits_of (Losses.losses_of setting (listed text.now pieces.now) scores.now uses.now) }
 {
-    let mut chars = [0u32; 255];
-    let mut grid = [0u32; 8160];
-    let mut offsets = [0u32; 257];
-    let mut starts = [0u32; 8160];
-    let mut ids = [0u32; 8160];
-    let mut place = [0u32; 4];
-    let mut best = [0.0f64; 256];
-    put_losses(
+    let mut work = Work {
+        chars: [0; 255],
+        grid: [0; 8160],
+        offsets: [0; 257],
+        starts: [0; 8160],
+        ids: [0; 8160],
+        place: [0; 4],
+        best: [0.0; 256],
+    };
+    let scored = Scored {
         text,
         pieces,
         setting,
         keys,
         ends,
         scores,
-        uses,
-        bits,
-        &mut chars,
-        &mut grid,
-        &mut offsets,
-        &mut starts,
-        &mut ids,
-        &mut place,
-        &mut best,
-    );
+    };
+    for id in 0..bits.len() {
+        let cost = scored.loss(uses[id], &mut work, id);
+        bits[id] = math::bits(cost);
+    }
 }

@@ -3,6 +3,7 @@ use mathlib.Core.Path.{◌≡◌, refl, sym, ap, ◌∙◌, subst}
 use mathlib.Core.List.{List, [], ◌∷◌, ◌++◌, map}
 use Prim.Native.Nat.{ℕ, zero, suc, ◌+◌, ◌*◌, ◌/◌, ◌≤◌, ◌<◌}
 use native.Mathlib.Omega.{arith}
+use Rattle.std.specs.Prelude.{Result, Ok, Err}
 use lib.Dec.{ltb}
 use lib.ListN.{length, take}
 use lib.Ieee.{Float}
@@ -25,13 +26,10 @@ use Rattle.begun.specs.Here.{Here, lent_of}
 use Rattle.begun.proofs.Pieces as pieces
 use Rattle.begun.proofs.First as begun
 use Rattle.shape.specs.Steps.{Shaping, Shapes, ShapesTo}
-use Rattle.shape.specs.declared.Shaped.{Shaped}
-use Rattle.shape.specs.declared.Shaped.TheVariants.{Pieces, Refused as Unshaped}
 use Rattle.tokens.specs.Tokens as tokens
 use Rattle.make.specs.Make.{Results, final, token_bytes, token_scores, Late, too_small, unlaid, no_results}
 use Rattle.make.specs.Steps.{Concludes, Making, MakesTo}
 use Rattle.make.specs.declared.Trained.{Trained}
-use Rattle.make.specs.declared.Trained.TheVariants.{Tokens, Refused}
 
 half : (n k : ℕ) → n ≡ 2 * k → n / 2 ≡ k
 half n k e = omega arith
@@ -71,7 +69,7 @@ module _ (settings : Settings) (texts specials text kept counts : List ℕ) (wor
     specials_few = given.fit.settings_fit.specials_within.few
 
     -- ---- 8
-    pub refuse_vocab : (y' : Results) (n : ℕ) → n ≡ required + many specials → target < required → y' ≡ y → MakesTo x (seed_texts text spans count) required keys ends z y y' (Refused (VocabTooSmall n))
+    pub refuse_vocab : (y' : Results) (n : ℕ) → n ≡ required + many specials → target < required → y' ≡ y → MakesTo x (seed_texts text spans count) required keys ends z y y' (Err (VocabTooSmall n))
     refuse_vocab y' n q l s = (subst (λ (k : ℕ). Late x keys ends z y (seed_texts text spans count) required (VocabTooSmall k)) (sym q) (too_small (omega arith)), s)
 
     -- ---- 7 at 2 and 3
@@ -79,9 +77,9 @@ module _ (settings : Settings) (texts specials text kept counts : List ℕ) (wor
       asked_of : required ≤ target_in x
       asked_of = omega arith
 
-      pub refuse_shape : (pieces' : List ℕ) (scores' : List Float) (refusal : Refusal) (r : Shaped) → r ≡ Unshaped refusal
+      pub refuse_shape : (pieces' : List ℕ) (scores' : List Float) (refusal : Refusal) (r : Result ℕ Refusal) → r ≡ Err refusal
           → Shapes settings target text kept counts words count required spans scores keys ends z pieces' scores' r
-          → MakesTo x (seed_texts text spans count) required keys ends z y y (Refused refusal)
+          → MakesTo x (seed_texts text spans count) required keys ends z y y (Err refusal)
       refuse_shape pieces' scores' refusal r q f = (
         unlaid asked_of
             (subst (ShapesTo (task_of x required) (first_model (start.corpus x) (seed_texts text spans count)) text keys ends z pieces' scores') q (f texts specials h e)),
@@ -89,9 +87,9 @@ module _ (settings : Settings) (texts specials text kept counts : List ℕ) (wor
       )
 
       -- ---- the pieces that are left
-      module _ (pieces' : List ℕ) (scores' : List Float) (left : ℕ) (r : Shaped) (q : r ≡ Pieces left)
+      module _ (pieces' : List ℕ) (scores' : List Float) (left : ℕ) (r : Result ℕ Refusal) (q : r ≡ Ok left)
           (f : Shapes settings target text kept counts words count required spans scores keys ends z pieces' scores' r) where
-        shaped : ShapesTo (task_of x required) (first_model (start.corpus x) (seed_texts text spans count)) text keys ends z pieces' scores' (Pieces left)
+        shaped : ShapesTo (task_of x required) (first_model (start.corpus x) (seed_texts text spans count)) text keys ends z pieces' scores' (Ok left)
         shaped = subst (ShapesTo (task_of x required) (first_model (start.corpus x) (seed_texts text spans count)) text keys ends z pieces' scores') q (f texts specials h e)
 
         abbrev last : Model
@@ -149,22 +147,22 @@ module _ (settings : Settings) (texts specials text kept counts : List ℕ) (wor
             ∙ ap (λ (n : ℕ). ltb n (length last.pieces)) e
 
         -- ---- 7 at 4, or the tokens
-        pub makes : (y' : Results) (a : Trained)
+        pub makes : (y' : Results) (a : Result Trained Refusal)
             → Concludes (tokens.tokens_of texts specials text (take (2 * left) pieces')) (tokens.scores_of specials (take left scores')) (length (take left scores')) target required y y' a
             → MakesTo x (seed_texts text spans count) required keys ends z y y' a
-        makes y' (Tokens n chars over) (filled, c, o) = (
+        makes y' (Ok r') (filled, c, o) = (
           c,
           record {
             asked = asked_of;
             trie_fits = shaped.0;
             cache_fits = shaped.1;
             filled =
-                subst (λ (s : List Float). tokens.Filled (token_bytes x last) s y.bytes y.tokens y.scores y'.bytes y'.tokens y'.scores n) scores_are
-                (subst (λ (l : List (List ℕ)). tokens.Filled l (tokens.scores_of specials (take left scores')) y.bytes y.tokens y.scores y'.bytes y'.tokens y'.scores n) bytes_are filled);
+                subst (λ (s : List Float). tokens.Filled (token_bytes x last) s y.bytes y.tokens y.scores y'.bytes y'.tokens y'.scores r'.tokens) scores_are
+                (subst (λ (l : List (List ℕ)). tokens.Filled l (tokens.scores_of specials (take left scores')) y.bytes y.tokens y.scores y'.bytes y'.tokens y'.scores r'.tokens) bytes_are filled);
             over_is = o ∙ over_is;
           },
         )
-        makes y' (Refused refusal) p = (
+        makes y' (Err refusal) p = (
           subst (Late x keys ends z y (seed_texts text spans count) required) (sym p.0)
               (no_results asked_of shaped.0 shaped.1 (λ r. p.1 (subst (λ (l : List (List ℕ)). tokens.Room l y.bytes y.tokens y.scores) (sym bytes_are) r))),
           p.2,

@@ -4,8 +4,7 @@ use mathlib.Core.List.{List}
 use Prim.Native.Nat.{ℕ}
 use lib.Ieee.{Float}
 use Rattle.tokens.specs.Tokens.{Room, Filled, Answers}
-use Rattle.tokens.specs.declared.Written.{Written}
-use Rattle.tokens.specs.declared.Written.TheVariants.{Tokens, NoRoom}
+use Rattle.std.specs.Prelude.{Option, Some, None}
 use Rattle.make.specs.Make.{Results}
 
 pub same_results : {bytes bytes' tokens tokens' : List ℕ} {scores scores' : List Float} → bytes' ≡ bytes → tokens' ≡ tokens → scores' ≡ scores
@@ -16,12 +15,12 @@ same_results {bytes} {bytes'} {tokens} {tokens'} {scores} {scores'} b t s =
     ∙ ap (λ (x : List Float). record { bytes = bytes; tokens = tokens; scores = x }) s
 
 -- ---- what `write` leaves, by its answer
-module _ (list : List (List ℕ)) (values : List Float) (bytes tokens : List ℕ) (scores : List Float) (bytes' tokens' : List ℕ) (scores' : List Float) (r : Written) (a : Answers list values bytes tokens scores bytes' tokens' scores' r) where
-  pub unwritten : r ≡ NoRoom
+module _ (list : List (List ℕ)) (values : List Float) (bytes tokens : List ℕ) (scores : List Float) (bytes' tokens' : List ℕ) (scores' : List Float) (r : Option ℕ) (a : Answers list values bytes tokens scores bytes' tokens' scores' r) where
+  pub unwritten : r ≡ None
       → (Room list bytes tokens scores → ⊥) × ◌≡◌ {A = Results} (record { bytes = bytes'; tokens = tokens'; scores = scores' }) (record { bytes = bytes; tokens = tokens; scores = scores })
   unwritten q =
       let u = subst (Answers list values bytes tokens scores bytes' tokens' scores') q a in
       (u.no_room, same_results u.same_bytes u.same_spans u.same_scores)
 
-  pub written : (n : ℕ) → r ≡ Tokens n → Filled list values bytes tokens scores bytes' tokens' scores' n
+  pub written : (n : ℕ) → r ≡ Some n → Filled list values bytes tokens scores bytes' tokens' scores' n
   written n q = subst (Answers list values bytes tokens scores bytes' tokens' scores') q a

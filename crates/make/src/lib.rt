@@ -4,21 +4,20 @@
 
 ghost use Rattle.std.specs.Prelude.{length};
 ghost use Rattle.tokens.specs.Tokens.{Given, tokens_of, scores_of};
+ghost use Rattle.shrink.specs.Lent.{cache_of, SameState, SameWork};
 ghost use Rattle.make.specs.Steps.{Concludes, Making, Makes};
 
+use listing::Seeded;
 use refusal::Refusal;
 use settings::Settings;
-use shape::Shaped;
+use shrink::{State, Work};
 
-// How many tokens there are, how many pieces are required, and whether training stopped over target; or why there are none.
-#[derive(Clone, Copy)]
-pub enum Trained {
-    Tokens {
-        tokens: usize,
-        required: usize,
-        stalled: bool,
-    },
-    Refused(Refusal),
+// How many tokens there are, how many pieces are required, and whether training stopped over target.
+#[derive(Clone, Copy, Debug, PartialEq, Eq)]
+pub struct Trained {
+    pub tokens: usize,
+    pub required: usize,
+    pub stalled: bool,
 }
 
 // The tokens of the pieces that are left, specials first.
@@ -33,7 +32,7 @@ fn conclude(
     bytes: &mut [u8],
     tokens: &mut [u32],
     token_scores: &mut [f64],
-) -> Trained
+) -> Result<Trained, Refusal>
     requires { Given texts.now specials.now text.now pieces.now scores.now }
     ensures { Concludes (tokens_of texts.now specials.now text.now pieces.now) (scores_of specials.now scores.now) (length scores.now) target required (record { bytes = bytes.old; tokens = tokens.old; scores = token_scores.old }) (record { bytes = bytes.new; tokens = tokens.new; scores = token_scores.new }) result }
 {
@@ -47,12 +46,12 @@ fn conclude(
         tokens,
         token_scores,
     ) {
-        tokens::Written::NoRoom => Trained::Refused(Refusal::NoRoom(refusal::NO_ROOM_RESULTS)),
-        tokens::Written::Tokens(tokens) => Trained::Tokens {
+        None => Err(Refusal::NoRoom(refusal::NO_ROOM_RESULTS)),
+        Some(tokens) => Ok(Trained {
             tokens,
             required,
             stalled: target < scores.len(),
-        },
+        }),
     }
 }
 
@@ -64,52 +63,41 @@ pub fn make(
     text: &[u8],
     kept: &[u32],
     counts: &[u64],
-    words: usize,
-    count: usize,
-    required: usize,
-    order: &mut [u32],
-    work: &mut [u32],
-    ranks: &mut [u64],
-    pieces: &mut [u32],
-    scores: &mut [f64],
-    expected: &mut [f64],
-    keys: &mut [u64],
-    ends: &mut [u32],
-    offsets: &mut [u32],
-    starts: &mut [u32],
-    ids: &mut [u32],
-    spans: &mut [u32],
+    seeded: Seeded,
+    state: &mut State,
+    work: &mut Work,
     bytes: &mut [u8],
     tokens: &mut [u32],
     token_scores: &mut [f64],
-) -> Trained
-    requires { Making settings texts.now specials.now text.now kept.now counts.now words count required (length order.old) (length work.old) (length ranks.old) pieces.old scores.old (length expected.old) }
-    ensures { Makes settings texts.now specials.now text.now kept.now counts.now words count required pieces.old scores.old keys.old ends.old (record { offsets = offsets.old; starts = starts.old; ids = ids.old; spans = spans.old }) (record { bytes = bytes.old; tokens = tokens.old; scores = token_scores.old }) (record { bytes = bytes.new; tokens = tokens.new; scores = token_scores.new }) result }
+) -> Result<Trained, Refusal>
+    requires { Making settings texts.now specials.now text.now kept.now counts.now seeded.words seeded.pieces seeded.required (length work.old.ranked.now) (length work.old.remap.now) (length work.old.bits.now) state.old.pieces.now state.old.scores.now (length work.old.expected.now) }
+    ensures makes { Makes settings texts.now specials.now text.now kept.now counts.now seeded.words seeded.pieces seeded.required state.old.pieces.now state.old.scores.now work.old.keys.now work.old.ends.now (cache_of state.old) (record { bytes = bytes.old; tokens = tokens.old; scores = token_scores.old }) (record { bytes = bytes.new; tokens = tokens.new; scores = token_scores.new }) result }
+    ensures same_state { SameState state.old state.new }
+    ensures same_work { SameWork work.old work.new }
 {
     let many = spans::count(specials);
     let target = settings.target(many);
+    let required = seeded.required;
     if target < required {
-        return Trained::Refused(Refusal::VocabTooSmall((required + many) as u64));
+        return Err(Refusal::VocabTooSmall((required + many) as u64));
     }
-    match shape::shape(
-        settings, target, text, kept, counts, words, count, required, order, work, ranks, pieces,
-        scores, expected, keys, ends, offsets, starts, ids, spans,
-    ) {
-        Shaped::Refused(refusal) => Trained::Refused(refusal),
-        Shaped::Pieces(left) => {
-            let numbers = 2 * left;
-            conclude(
-                texts,
-                specials,
-                text,
-                &pieces[..numbers],
-                &scores[..left],
-                target,
-                required,
-                bytes,
-                tokens,
-                token_scores,
-            )
-        }
-    }
+    let left = shape::shape(settings, target, text, kept, counts, seeded, state, work)?;
+    let numbers = 2 * left;
+    // Each slice by a name of its own: of what a field lends in place, no more than the length would be known afterwards.
+    let pieces = &mut *state.pieces;
+    let scores = &mut *state.scores;
+    let all_pieces = &*pieces;
+    let all_scores = &*scores;
+    conclude(
+        texts,
+        specials,
+        text,
+        &all_pieces[..numbers],
+        &all_scores[..left],
+        target,
+        required,
+        bytes,
+        tokens,
+        token_scores,
+    )
 }

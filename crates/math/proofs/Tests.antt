@@ -6,10 +6,10 @@ use native.Mathlib.Omega.{arith}
 use mathlib.Core.Bool.{true, false, ◌&&◌}
 use lib.Dec.{T, ltb, eqb, ltb→lt, lt→ltb}
 use lib.IntN.{ℤ, pos, negsuc}
-use lib.Ieee.{Float, nan, inf, fin, up, down, neg, div, lt, le, eq, of_bits}
+use lib.Ieee.{Float, nan, inf, fin, up, down, neg, lt, le, eq, is_nan, of_bits}
 use lib.Ieee.Fits.{and_i, eq→eqb, down_pos}
 use Rattle.rounding.proofs.Values.{lt_or_ge, or_left, or_right}
-use Rattle.math.specs.Steps.{zero, half, one, end, ◌⊘◌}
+use Rattle.math.specs.Steps.{zero, half, one, end, lit}
 
 -- ---- nothing whose sign is not set is below zero
 pub plain_not_below : (m : ℕ) (e : ℤ) → T (lt (fin false m e) zero) → ⊥
@@ -89,15 +89,22 @@ pub above_one : (x : Float) → T (lt zero x) → (T (le x one) → ⊥) → T (
 unfolding of_bits
 above_one x a h = from_not_le x 1 (pos 0) a h
 
--- ---- values made by a division
-pub over_zero : one ⊘ zero ≡ inf false
-unfolding div of_bits
+-- ---- there is one NaN
+pub nan_is : (x : Float) → T (is_nan x) → x ≡ nan
+unfolding is_nan
+nan_is nan h = refl
+nan_is (inf s) h = absurd h
+nan_is (fin s m e) h = absurd h
+
+-- ---- the library's constants
+pub over_zero : lit 0x7ff0_0000_0000_0000 ≡ inf false
+unfolding of_bits
 over_zero = refl
 
-pub under_zero : neg one ⊘ zero ≡ inf true
-unfolding div neg of_bits
+pub under_zero : lit 0xfff0_0000_0000_0000 ≡ inf true
+unfolding of_bits
 under_zero = refl
 
-pub no_number : zero ⊘ zero ≡ nan
-unfolding div of_bits
+pub no_number : lit 0x7ff8_0000_0000_0000 ≡ nan
+unfolding of_bits
 no_number = refl

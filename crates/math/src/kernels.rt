@@ -5,8 +5,7 @@ ghost use Rattle.std.specs.Float.Ieee.{lt, le};
 ghost use Rattle.rounding.specs.Grid.{cut};
 ghost use Rattle.math.specs.Steps.{zero, half, one, end, grid64, grid128, fall as fallOf, exp_poly, ln_fall, ln_rise, exp_neg, ln_half, field, significand as significandOf, ln_down, ln_below, ln_above, ln_positive, ln1p_unit};
 
-// The nearest f64 to ln 2.
-const LN_2: f64 = 0.6931471805599453;
+use std::f64::consts::LN_2;
 
 // t cut down to a multiple of 1/64: adding 1.5 * 2^46 leaves no smaller digit.
 fn cut64(t: f64) -> f64
@@ -116,10 +115,10 @@ fn ln_below(x: f64) -> f64
     requires t_2 { T (lt x half) }
     ensures { result ≡ ln_below x }
 {
-    if x >= 2.2250738585072014e-308 {
-        0.0 - ln_down(f64::to_bits(x), 1022)
+    if x >= f64::MIN_POSITIVE {
+        0.0 - ln_down(x.to_bits(), 1022)
     } else {
-        0.0 - ln_down(f64::to_bits(x * 18014398509481984.0), 1076)
+        0.0 - ln_down((x * 18014398509481984.0).to_bits(), 1076)
     }
 }
 
@@ -129,7 +128,7 @@ fn ln_above(x: f64) -> f64
     requires t_2 { T (lt x (inf false)) }
     ensures { result ≡ ln_above x }
 {
-    let b = f64::to_bits(x);
+    let b = x.to_bits();
     let e = b / 0x10_0000_0000_0000;
     ((e - 1022) as f64) * LN_2 - ln_half(significand(b))
 }
@@ -143,9 +142,9 @@ pub fn ln_positive(x: f64) -> f64
         ln_below(x)
     } else if x <= 1.0 {
         0.0 - ln_half(x)
-    } else if x < 1.0 / 0.0 {
+    } else if x < f64::INFINITY {
         ln_above(x)
     } else {
-        1.0 / 0.0
+        f64::INFINITY
     }
 }

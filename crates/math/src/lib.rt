@@ -17,10 +17,10 @@ mod kernels;
 pub fn bits(x: f64) -> u64
     ensures { result ≡ to_bits binary64 x }
 {
-    if x != x {
+    if x.is_nan() {
         0x7ff8_0000_0000_0000
     } else {
-        f64::to_bits(x)
+        x.to_bits()
     }
 }
 
@@ -29,7 +29,7 @@ pub fn from_bits(b: u64) -> f64
     ensures { result ≡ of_bits binary64 b }
 {
     if b % 0x8000_0000_0000_0000 > 0x7ff0_0000_0000_0000 {
-        0.0 / 0.0
+        f64::NAN
     } else {
         f64::from_bits(b)
     }
@@ -49,12 +49,12 @@ pub fn exp(x: f64) -> f64
         if x < 746.0 {
             1.0 / kernels::exp_neg(x)
         } else {
-            1.0 / 0.0
+            f64::INFINITY
         }
     } else if x == 0.0 {
         1.0
     } else {
-        0.0 / 0.0
+        f64::NAN
     }
 }
 
@@ -65,9 +65,9 @@ pub fn ln(x: f64) -> f64
     if x > 0.0 {
         kernels::ln_positive(x)
     } else if x == 0.0 {
-        -1.0 / 0.0
+        f64::NEG_INFINITY
     } else {
-        0.0 / 0.0
+        f64::NAN
     }
 }
 

@@ -1,5 +1,5 @@
 -- From the checks of the parts to the check of all. Assumes nothing.
-use mathlib.Core.Path.{◌≡◌, sym, subst}
+use mathlib.Core.Path.{sym, subst}
 use mathlib.Core.List.{List}
 use Prim.Native.Nat.{ℕ, ◌≤◌, ◌<◌}
 use native.Mathlib.Omega.{arith}
@@ -8,13 +8,9 @@ use lib.Ieee.{Float, nan}
 use Rattle.refusal.specs.declared.Refusal.{Refusal}
 use Rattle.refusal.specs.declared.Refusal.TheVariants.{BadWord, BadScore}
 use Rattle.spans.specs.Spans.{many}
-use Rattle.inputs.specs.Inputs.{Bounded as AllBounded, InOrder as AllInOrder, Why as NotInOrder, bad_setting as its-setting, no_room as its-room, bad_word as its-word, bad_piece as its-piece, repeated as its-repeat, Answers}
-use Rattle.inputs.specs.declared.Checked.{Checked}
-use Rattle.inputs.specs.declared.Checked.TheVariants.{Fine, Refused}
+use Rattle.inputs.specs.Inputs.{Bounded as AllBounded, InOrder as AllInOrder, Why as NotInOrder, bad_setting as its-setting, no_room as its-room, bad_word as its-word, bad_piece as its-piece, repeated as its-repeat}
 use Rattle.scores.specs.Floats.{ZeroOrBelow}
-use Rattle.lent.specs.Lent.{AllScored as LentScored, Answers as LentAnswers}
-use Rattle.lent.specs.declared.Scored.{Scored}
-use Rattle.lent.specs.declared.Scored.TheVariants.{Fine as ScoredFine, BadAt}
+use Rattle.lent.specs.Lent.{AllScored as LentScored, FirstBad as LentFirstBad}
 use Rattle.one_word.specs.Word.{Lent, Bounded, FirstUnscored, InOrder, Bad, bad_setting, no_room, bad_word, bad_piece, repeated, bad_score}
 use Rattle.one_word.specs.Steps.{Spanned}
 use Rattle.one_word.proofs.Spans.{short_text, one_span, good_span, span_good, bad_span}
@@ -40,12 +36,6 @@ module _ (x : Lent) {bytes : ℕ} {span : List ℕ} (s : Spanned x.word bytes sp
   refused_so (its-piece h b w f) = bad_piece h (so_bounded b) (span_good s w) f
   refused_so (its-repeat h b w p l) = repeated h (so_bounded b) (span_good s w) p l
 
-  pub told_fine : (r : Checked) → r ≡ Fine → Answers x.setting (text x bytes) span x.spellings x.pieces table r → AllInOrder x.setting (text x bytes) span x.spellings x.pieces table
-  told_fine r e a = subst (Answers x.setting (text x bytes) span x.spellings x.pieces table) e a
-
-  pub told_refused : (r : Checked) (refusal : Refusal) → r ≡ Refused refusal → Answers x.setting (text x bytes) span x.spellings x.pieces table r → Bad x table refusal
-  told_refused r refusal e a = refused_so (subst (Answers x.setting (text x bytes) span x.spellings x.pieces table) e a)
-
   pub ordered_so : InOrder x table → AllInOrder x.setting (text x bytes) span x.spellings x.pieces table
   ordered_so o = record { short = o.short; bounded = bounded_so o.bounded; words_good = good_span s o.word_good; pieces_good = o.pieces_good; once = o.once }
 
@@ -53,13 +43,10 @@ module _ (x : Lent) {bytes : ℕ} {span : List ℕ} (s : Spanned x.word bytes sp
     unscored : {id : ℕ} → FirstUnscored x id → Bad x table (BadScore id)
     unscored f = bad_score o.short (so_bounded o.bounded) (span_good s o.words_good) o.pieces_good o.once f
 
-    pub bad_at : (r : Scored) (id : ℕ) → r ≡ BadAt id → LentAnswers x.scores r → Bad x table (BadScore id)
-    bad_at r id e a = let f = subst (LentAnswers x.scores) e a in let h = f.within in unscored (record { within = omega arith; before = f.before; bad = f.bad })
+    pub bad_at : {id : ℕ} → LentFirstBad x.scores id → Bad x table (BadScore id)
+    bad_at f = let h = f.within in unscored (record { within = omega arith; before = f.before; bad = f.bad })
 
-    module _ (r : Scored) (fine : r ≡ ScoredFine) (a : LentAnswers x.scores r) where
-      all : LentScored x.scores (length x.scores)
-      all = subst (LentAnswers x.scores) fine a
-
+    module _ (all : LentScored x.scores (length x.scores)) where
       -- a score that is missing reads as NaN
       pub missing_at : length x.scores < many x.pieces → Bad x table (BadScore (length x.scores))
       missing_at h = unscored (record { within = omega arith; before = all; bad = λ z. subst (λ (f : Float). ZeroOrBelow f) (get_or-eq_default x.scores nan {n = length x.scores} (omega arith)) z })

@@ -6,11 +6,11 @@ use mathlib.Core.Logic.{◌↔◌, ◌⊎◌, inl, inr}
 use mathlib.Core.List.{List, [], ◌∷◌, ◌++◌}
 use Prim.Native.Nat.{ℕ, min}
 use native.Mathlib.Decide.{dec_lt}
-use native.Mathlib.Nat.{lt_irrefl}
 use native.Mathlib.Omega.{arith}
 use lib.IntN.{pos}
 use lib.ListN.{length, take, drop}
 use lib.Ieee.{Float, fin}
+use Rattle.std.specs.Prelude.{Result, Ok, Err}
 use Rattle.laws.proofs.Outcome.{one_outcome}
 use Rattle.refusal.specs.declared.Refusal.{Refusal}
 use Rattle.refusal.specs.declared.Refusal.TheVariants.{BadScore}
@@ -24,7 +24,6 @@ use Rattle.scores.proofs.Theorems.{best_cut_theorem}
 use Rattle.viterbi.specs.Walk.{spell}
 use Rattle.viterbi.proofs.Shapes.{sound}
 use Rattle.cut.specs.declared.Cut.{Cut}
-use Rattle.cut.specs.declared.Cut.TheVariants.{Score, Refused}
 use Rattle.spelt.proofs.Theorems.{found_spells}
 use Rattle.fresh.specs.Build.{Work}
 use Rattle.fresh.proofs.Most.{chars_few}
@@ -142,10 +141,10 @@ pub record IsBest (x : Lent) (path' : List ℕ) (score : Float) (count : ℕ) : 
 
 -- `theorem` says of the cut that wins: "the earliest start at each position wins ties, and what precedes is chosen so for the
 -- shorter word"; and that no second cut does
-pub record Answered (x : Lent) (path' : List ℕ) (r : Cut) : Type 0 where
+pub record Answered (x : Lent) (path' : List ℕ) (r : Result Cut Refusal) : Type 0 where
   pub theorem : BestCutTheorem (whole_lattice x) (length (chars x))
-  pub exactly : FiniteCut (whole_lattice x) (length (chars x)) ↔ ((score : Float) × (count : ℕ) × (r ≡ Score score count))
-  pub is_best : (score : Float) (count : ℕ) → r ≡ Score score count → IsBest x path' score count
+  pub exactly : FiniteCut (whole_lattice x) (length (chars x)) ↔ ((cut : Cut) × (r ≡ Ok cut))
+  pub is_best : (cut : Cut) → r ≡ Ok cut → IsBest x path' cut.score cut.count
 
 best_of : {x : Lent} {w : Work} {path path' : List ℕ} {score : Float} {count : ℕ} → Given x w path path' score count → IsBest x path' score count
 best_of {x} {path' = path'} g =
@@ -161,38 +160,32 @@ best_of {x} {path' = path'} g =
     }
 
 -- Of a word, pieces and scores that are in order, and room for all: what `cut` answers.
-pub answered : (x : Lent) (w : Work) (path path' : List ℕ) → Ready x w path → (r : Cut) → Answers x w path path' r → Answered x path' r
-answered x w path path' r (Score score count) g =
+pub answered : (x : Lent) (w : Work) (path path' : List ℕ) → Ready x w path → (r : Result Cut Refusal) → Answers x w path path' r → Answered x path' r
+answered x w path path' r (Ok cut) g =
     record {
       theorem = theorem x r.in_order;
-      exactly = (λ c. (score, count, refl), λ _. finite_cut x w path g);
-      is_best = λ s c e.
-          let a : score ≡ s = cc in
-          let b : count ≡ c = cc in
-          subst (λ (z : Float). IsBest x path' z c) a (subst (IsBest x path' score) b (best_of g));
+      exactly = (λ c. (cut, refl), λ _. finite_cut x w path g);
+      is_best = λ other e. let same : cut ≡ other = cc in subst (λ (c : Cut). IsBest x path' c.score c.count) same (best_of g);
     }
-answered x w path path' r (Refused refusal) (y, kept) =
+answered x w path path' r (Err refusal) (y, kept) =
     record {
       theorem = theorem x r.in_order;
-      exactly = (λ c. absurd (never x w path r c y), λ (s, c, e). absurd (apart e));
-      is_best = λ s c e. absurd (apart e);
+      exactly = (λ c. absurd (never x w path r c y), λ (cut, e). absurd cc);
+      is_best = λ cut e. absurd cc;
     }
-  where
-    apart : {s : Float} {c : ℕ} → Refused refusal ≡ Score s c → ⊥
-    apart e = let z : ◌≡◌ {A = ℕ} 0 1 = cc in lt_irrefl 0 (omega arith)
 
 -- ---- no second outcome
-pub no_second : (x : Lent) (w : Work) (path path' path'' : List ℕ) (r s : Cut) → Answers x w path path' r → Answers x w path path'' s → (path' ≡ path'') × (r ≡ s)
-no_second x w path path' path'' (Score a c) (Score b d) p q =
+pub no_second : (x : Lent) (w : Work) (path path' path'' : List ℕ) (r s : Result Cut Refusal) → Answers x w path path' r → Answers x w path path'' s → (path' ≡ path'') × (r ≡ s)
+no_second x w path path' path'' (Ok a) (Ok b) p q =
     let f = p.found in
     let g = q.found in
     let e : f.cut ≡ g.cut = (theorem x p.in_order).no_second f.cut g.cut f.is_best g.is_best in
-    let s : a ≡ b = f.score_is ∙ ap (sum f64s (whole_lattice x)) e ∙ sym g.score_is in
-    let n : c ≡ d = f.count_is ∙ ap length e ∙ sym g.count_is in
-    (f.written ∙ ap₂ (λ (k : List ℕ) (m : ℕ). spell (ids x) k ++ drop m path) e n ∙ sym g.written, ap₂ Score s n)
-no_second x w path path' path'' (Score a c) (Refused t) p (y, kept) = absurd (never x w path (ready x w path p) (finite_cut x w path p) y)
-no_second x w path path' path'' (Refused r) (Score b d) (y, kept) q = absurd (never x w path (ready x w path q) (finite_cut x w path q) y)
-no_second x w path path' path'' (Refused r) (Refused s) (v, k) (y, l) = (one_outcome k l, ap Refused (one_why x w path v y))
+    let s : a.score ≡ b.score = f.score_is ∙ ap (sum f64s (whole_lattice x)) e ∙ sym g.score_is in
+    let n : a.count ≡ b.count = f.count_is ∙ ap length e ∙ sym g.count_is in
+    (f.written ∙ ap₂ (λ (k : List ℕ) (m : ℕ). spell (ids x) k ++ drop m path) e n ∙ sym g.written, ap₂ (λ (score : Float) (count : ℕ). Ok (record { score = score; count = count })) s n)
+no_second x w path path' path'' (Ok a) (Err t) p (y, kept) = absurd (never x w path (ready x w path p) (finite_cut x w path p) y)
+no_second x w path path' path'' (Err r) (Ok b) (y, kept) q = absurd (never x w path (ready x w path q) (finite_cut x w path q) y)
+no_second x w path path' path'' (Err r) (Err s) (v, k) (y, l) = (one_outcome k l, ap Err (one_why x w path v y))
 
 -- ---- "P empty word: no pieces, score 0, accepted": over any pieces and scores that are in order, and with any path
 module _ (x : Lent) (e : x.word ≡ []) (w : Work) (o : InOrder x w.table) where
@@ -202,13 +195,13 @@ module _ (x : Lent) (e : x.word ≡ []) (w : Work) (o : InOrder x w.table) where
   nothing_best : BestCut (whole_lattice x) (length (chars x)) []
   nothing_best = record { wins = no_chars; is_finite = tt }
 
-  pub empty_word : (path path' : List ℕ) (r : Cut) → TrieRoom x w → Answers x w path path' r → (r ≡ Score (fin false 0 (pos 0)) 0) × (path' ≡ path)
-  empty_word path path' (Score score count) t g =
+  pub empty_word : (path path' : List ℕ) (r : Result Cut Refusal) → TrieRoom x w → Answers x w path path' r → (r ≡ Ok (record { score = fin false 0 (pos 0); count = 0 })) × (path' ≡ path)
+  empty_word path path' (Ok cut) t g =
       let f = g.found in
       let n : f.cut ≡ [] = (theorem x o).no_second f.cut [] f.is_best nothing_best in
-      let s : score ≡ fin false 0 (pos 0) = f.score_is ∙ ap (sum f64s (whole_lattice x)) n in
-      let c : count ≡ 0 = f.count_is ∙ ap length n in
-      (ap₂ Score s c, f.written ∙ ap₂ (λ (k : List ℕ) (m : ℕ). spell (ids x) k ++ drop m path) n c)
-  empty_word path path' (Refused refusal) t (y, kept) =
+      let s : cut.score ≡ fin false 0 (pos 0) = f.score_is ∙ ap (sum f64s (whole_lattice x)) n in
+      let c : cut.count ≡ 0 = f.count_is ∙ ap length n in
+      (ap₂ (λ (score : Float) (count : ℕ). Ok (record { score = score; count = count })) s c, f.written ∙ ap₂ (λ (k : List ℕ) (m : ℕ). spell (ids x) k ++ drop m path) n c)
+  empty_word path path' (Err refusal) t (y, kept) =
       let n = no_chars in
       absurd (never x w path (record { in_order = o; trie_room = t; slots = omega arith }) (record { cut = []; is_cut = no_chars; is_finite = tt }) y)

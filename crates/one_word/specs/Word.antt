@@ -1,6 +1,6 @@
 -- The best cut of one word over a list of pieces, when it is refused and what it leaves: document 01, "The one-word cut: 2
 -- (piece length), 3 (too long or not UTF-8; place 0), 14, 15, 10, 7, 11, 12". Definitions only.
-use Rattle.std.specs.Prelude.{◌≡◌, List, [], map, ℕ, ◌+◌, ◌*◌, ◌/◌, ◌≤◌, ◌<◌, max, length, get_or, Float}
+use Rattle.std.specs.Prelude.{◌≡◌, List, [], map, ℕ, ◌+◌, ◌*◌, ◌/◌, ◌≤◌, ◌<◌, max, length, get_or, Float, Result, Ok, Err}
 use Rattle.std.specs.Float.{nan}
 use Rattle.refusal.specs.declared.Refusal.{Refusal}
 use Rattle.refusal.specs.declared.Refusal.TheVariants.{BadSetting, BadWord, BadPiece, RepeatedPiece, BadScore, NoRoom, NoPath}
@@ -12,8 +12,6 @@ use Rattle.repeats.specs.Repeats.{Lowest}
 use Rattle.lattice.specs.Lattice.{Edge, lattice}
 use Rattle.lattice.specs.Layout.{joined, offsets}
 use Rattle.inputs.specs.Inputs.{Short, GoodPieces, Once}
-use Rattle.inputs.specs.declared.Checked.{Checked}
-use Rattle.inputs.specs.declared.Checked.TheVariants.{Fine, Refused as Denied}
 use Rattle.trie.specs.Prefixes.{prefixes_of}
 use Rattle.trie.specs.Listed.{newest}
 use Rattle.fresh.specs.Build.{Work, places, Zeros as WorkZeros}
@@ -23,7 +21,6 @@ use Rattle.scores.specs.Best.{FiniteCut}
 use Rattle.viterbi.specs.Slices.{lattice_of}
 use Rattle.viterbi.specs.Answers.{Found}
 use Rattle.cut.specs.declared.Cut.{Cut}
-use Rattle.cut.specs.declared.Cut.TheVariants.{Score, Refused}
 
 -- what is lent: the length setting, the word, the pieces and their text, the scores
 pub record Lent : Type 0 where
@@ -93,9 +90,9 @@ pub data Bad (x : Lent) (table : List ℕ) : Refusal → Type 0 where
   bad_score : {id : ℕ} → Short x.setting → Bounded x table → GoodWord x.word → GoodPieces x.spellings x.pieces → Once x.spellings x.pieces → FirstUnscored x id
       → Bad x table (BadScore id)
 
-abbrev pub Checks : Lent → List ℕ → Checked → Type 0
-Checks x table Fine = InOrder x table
-Checks x table (Denied refusal) = Bad x table refusal
+abbrev pub Checks : Lent → List ℕ → Result (Unit {0}) Refusal → Type 0
+Checks x table (Ok _) = InOrder x table
+Checks x table (Err refusal) = Bad x table refusal
 
 -- ---- the rooms: "distinct non-empty prefixes plus the root exceed half the lent trie places", or not; "for a path fewer than n
 -- free slots", or not. The lattice of one word, and its n + 1 positions, need no lent room
@@ -118,9 +115,9 @@ pub record Given (x : Lent) (w : Work) (path path' : List ℕ) (score : Float) (
   pub slots : Slots x path
   pub found : Found (whole_lattice x) (ids x) (length (chars x)) path path' score count
 
-abbrev pub Answers : Lent → Work → List ℕ → List ℕ → Cut → Type 0
-Answers x w path path' (Score score count) = Given x w path path' score count
-Answers x w path path' (Refused refusal) = Why x w path refusal × (path' ≡ path)
+abbrev pub Answers : Lent → Work → List ℕ → List ℕ → Result Cut Refusal → Type 0
+Answers x w path path' (Ok cut) = Given x w path path' cut.score cut.count
+Answers x w path path' (Err refusal) = Why x w path refusal × (path' ≡ path)
 
 -- "Work slices hold zeros after every call, accepted or refused"
 abbrev pub Zeros : Work → Work → Type 0

@@ -14,11 +14,10 @@ ghost use Rattle.one_word.specs.Steps.{Spanned, Exact, Cuts, Ready, Follows};
 
 pub use cut::Cut;
 use cut::cut_core;
-use fresh::{Built, index_and_lay};
-use inputs::Checked;
-use lent::{Scored, check_scores};
+use formed::Lattice;
+use fresh::index_and_lay;
+use lent::check_scores;
 use refusal::Refusal;
-use slots::lesser;
 
 // Checks all, with a work table that is left as it may be. The word's first `bytes` bytes stand at the span.
 fn check(
@@ -30,53 +29,38 @@ fn check(
     pieces: &[u32],
     scores: &[f64],
     table: &mut [u32],
-) -> Checked
+) -> Result<(), Refusal>
     requires { Spanned word.now bytes span.now }
     ensures { Checks (record { setting = setting; word = word.now; spellings = spellings.now; pieces = pieces.now; scores = scores.now }) table.old result }
 {
-    match inputs::check(setting, &word[..bytes], span, spellings, pieces, table) {
-        Checked::Refused(refusal) => Checked::Refused(refusal),
-        Checked::Fine => match check_scores(scores) {
-            Scored::BadAt(id) => Checked::Refused(Refusal::BadScore(id as u64)),
-            Scored::Fine => {
-                if scores.len() < spans::count(pieces) {
-                    return Checked::Refused(Refusal::BadScore(scores.len() as u64));
-                }
-                Checked::Fine
-            }
-        },
+    inputs::check(setting, &word[..bytes], span, spellings, pieces, table)?;
+    if let Err(id) = check_scores(scores) {
+        return Err(Refusal::BadScore(id as u64));
     }
+    if scores.len() < spans::count(pieces) {
+        return Err(Refusal::BadScore(scores.len() as u64));
+    }
+    Ok(())
 }
 
 // The best cut of a lattice that stands in front of its slices.
-fn best_of(
-    offsets: &[u32],
-    starts: &[u32],
-    ids: &[u32],
-    edges: usize,
-    n: usize,
-    scores: &[f64],
-    path: &mut [u32],
-) -> Cut
-    requires { Exact offsets.now starts.now ids.now edges n scores.now }
-    ensures { Cuts offsets.now starts.now ids.now edges n scores.now path.old path.new result }
+fn best_of(front: &Lattice, edges: usize, scores: &[f64], path: &mut [u32]) -> Result<Cut, Refusal>
+    requires { Exact front.now.offsets.now front.now.starts.now front.now.ids.now edges front.now.n scores.now }
+    ensures { Cuts front.now.offsets.now front.now.starts.now front.now.ids.now edges front.now.n scores.now path.old path.new result }
 {
+    let n = front.n;
     if path.len() < n {
-        return Cut::Refused(Refusal::NoRoom(refusal::NO_ROOM_RESULTS));
+        return Err(Refusal::NoRoom(refusal::NO_ROOM_RESULTS));
     }
     let mut best = [0.0f64; 256];
     let mut back = [0u32; 256];
-    let ends = n + 2;
-    cut_core(
-        &offsets[..ends],
-        &starts[..edges],
-        &ids[..edges],
+    let lattice = Lattice {
+        offsets: &front.offsets[..n + 2],
+        starts: &front.starts[..edges],
+        ids: &front.ids[..edges],
         n,
-        scores,
-        &mut best,
-        &mut back,
-        path,
-    )
+    };
+    cut_core(&lattice, scores, &mut best, &mut back, path)
 }
 
 // Builds the trie and the word's lattice, and cuts, of what was checked.
@@ -91,7 +75,7 @@ fn lay_and_cut(
     path: &mut [u32],
     keys: &mut [u64],
     ends: &mut [u32],
-) -> Cut
+) -> Result<Cut, Refusal>
     requires spanned { Spanned word.now bytes span.now }
     requires ready { Ready (record { setting = setting; word = word.now; spellings = spellings.now; pieces = pieces.now; scores = scores.now }) }
     ensures { Follows (record { setting = setting; word = word.now; spellings = spellings.now; pieces = pieces.now; scores = scores.now }) keys.old ends.old path.old path.new result }
@@ -101,7 +85,7 @@ fn lay_and_cut(
     let mut starts = [0u32; 8160];
     let mut ids = [0u32; 8160];
     let mut place = [0u32; 4];
-    match index_and_lay(
+    let edges = index_and_lay(
         setting,
         &word[..bytes],
         span,
@@ -113,13 +97,14 @@ fn lay_and_cut(
         &mut place,
         keys,
         ends,
-    ) {
-        Built::Refused(refusal) => Cut::Refused(refusal),
-        Built::Edges(edges) => {
-            let n = place[3] as usize;
-            best_of(&offsets, &starts, &ids, edges, n, scores, path)
-        }
-    }
+    )?;
+    let front = Lattice {
+        offsets: &offsets,
+        starts: &starts,
+        ids: &ids,
+        n: place[3] as usize,
+    };
+    best_of(&front, edges, scores, path)
 }
 
 // Checks, and cuts; the work slices are left as they may be.
@@ -133,20 +118,18 @@ fn check_and_cut(
     keys: &mut [u64],
     ends: &mut [u32],
     table: &mut [u32],
-) -> Cut
+) -> Result<Cut, Refusal>
     ensures { Answers (record { setting = setting; word = word.now; spellings = spellings.now; pieces = pieces.now; scores = scores.now }) (record { keys = keys.old; ends = ends.old; table = table.old }) path.old path.new result }
 {
     // By its first 256 bytes it is known whether a word is too long.
-    let bytes = lesser(word.len(), 256);
+    let bytes = word.len().min(256);
     let span = [0u32, bytes as u32];
-    match check(
+    check(
         setting, word, bytes, &span, spellings, pieces, scores, table,
-    ) {
-        Checked::Refused(refusal) => Cut::Refused(refusal),
-        Checked::Fine => lay_and_cut(
-            setting, word, bytes, &span, spellings, pieces, scores, path, keys, ends,
-        ),
-    }
+    )?;
+    lay_and_cut(
+        setting, word, bytes, &span, spellings, pieces, scores, path, keys, ends,
+    )
 }
 
 // The best cut of a word: the ids of its pieces in front of the path. The empty word has no pieces, and its score is 0.
@@ -160,15 +143,15 @@ pub fn cut(
     keys: &mut [u64],
     ends: &mut [u32],
     table: &mut [u32],
-) -> Cut
+) -> Result<Cut, Refusal>
     ensures answers { Answers (record { setting = setting; word = word.now; spellings = spellings.now; pieces = pieces.now; scores = scores.now }) (record { keys = keys.old; ends = ends.old; table = table.old }) path.old path.new result }
     ensures zeros { Zeros (record { keys = keys.old; ends = ends.old; table = table.old }) (record { keys = keys.new; ends = ends.new; table = table.new }) }
 {
     let answer = check_and_cut(
         setting, word, spellings, pieces, scores, path, keys, ends, table,
     );
-    slots::clear_keys(keys);
-    slots::clear_numbers(ends);
-    slots::clear_numbers(table);
+    keys.fill(0);
+    ends.fill(0);
+    table.fill(0);
     answer
 }

@@ -1,13 +1,10 @@
-pub mod Total
 pub mod Unique
 pub mod Laws
 pub mod Merging
 pub mod Spelling
 pub mod Orders
 pub mod Items
-pub mod Walks
 pub mod Merged
 pub mod Halves
-pub mod Copied
 pub mod Inserted
 pub mod Theorems

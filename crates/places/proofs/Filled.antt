@@ -1,14 +1,12 @@
 -- What stands in the places in which entries were put.
 -- Assumes nothing.
-use Rattle.std.proofs.Common.{◌≡◌, ℕ, zero, suc, ◌+◌, ◌-◌, ◌/◌, ◌<◌, ◌≤◌, Bool, true, false, cond, eqb, List, [], ◌∷◌, length, get_or, set, sym, refl, ap, ◌∙◌, subst, inl, inr, ⊎_elim, arith, length-set, eq-eqb, ne_eqb, eqb-true}
+use Rattle.std.proofs.Common.{◌≡◌, ℕ, zero, suc, ◌+◌, ◌-◌, ◌/◌, ◌<◌, ◌≤◌, Bool, true, false, cond, eqb, List, [], ◌∷◌, length, get_or, set, sym, refl, ap, ◌∙◌, subst, inl, inr, ⊎_elim, arith, length-set, eq-eqb, ne_eqb, eqb-true, Option, Some, None}
 use lib.ListN.{length-replicate}
 use borrow.Author.Tests.{eqb-false}
 use Rattle.laws.proofs.Choices.{cond_cases}
 use Rattle.places.specs.Walk.{home_of, stop_of}
 use Rattle.places.specs.Map.{found_in}
 use Rattle.places.specs.Entries.{zeros, filled, given, node_of, Absent, Once}
-use Rattle.places.specs.declared.Found.{Found}
-use Rattle.places.specs.declared.Found.TheVariants.{Node, Nothing}
 use Rattle.places.proofs.Spot.{Spot, Holed, stop_spot}
 use Rattle.places.proofs.Table.{same?, Table, busy_in, key_busy, nowhere, at_new, at_old, stays, entered, used, used_set, holed}
 
@@ -27,26 +25,26 @@ filled_length n [] = length-replicate n 0
 filled_length n (e ∷ older) = length-set (filled n older) _ e ∙ filled_length n older
 
 -- a key that is no entry has no node
-pub absent_nothing : (n : ℕ) (entries : List ℕ) (key : ℕ) → Absent entries key → node_of n entries key ≡ Nothing
+pub absent_nothing : (n : ℕ) (entries : List ℕ) (key : ℕ) → Absent entries key → node_of n entries key ≡ None
 unfolding node_of
 absent_nothing n [] key a = refl
-absent_nothing n (e ∷ older) key a = ap (λ b. cond b (Node (given n older e)) (node_of n older key)) (ne_eqb e key a.0) ∙ absent_nothing n older key a.1
+absent_nothing n (e ∷ older) key a = ap (λ b. cond b (Some (given n older e)) (node_of n older key)) (ne_eqb e key a.0) ∙ absent_nothing n older key a.1
 
 -- and the other way round
-pub nothing_absent : (n : ℕ) (entries : List ℕ) (key : ℕ) → node_of n entries key ≡ Nothing → Absent entries key
+pub nothing_absent : (n : ℕ) (entries : List ℕ) (key : ℕ) → node_of n entries key ≡ None → Absent entries key
 unfolding node_of
 nothing_absent n [] key e = tt
 nothing_absent n (x ∷ older) key e = go (eqb x key) refl e (nothing_absent n older key)
   where
-    go : (b : Bool) → eqb x key ≡ b → cond b (Node (given n older x)) (node_of n older key) ≡ Nothing
-        → (node_of n older key ≡ Nothing → Absent older key) → Absent (x ∷ older) key
+    go : (b : Bool) → eqb x key ≡ b → cond b (Some (given n older x)) (node_of n older key) ≡ None
+        → (node_of n older key ≡ None → Absent older key) → Absent (x ∷ older) key
     go true t p ih = let z : ◌≡◌ {A = ℕ} 0 1 = cc in absurd (omega arith)
     go false t p ih = (eqb-false x key t, ih p)
 
 -- what an answer says of the places: the key stands below its node, or nowhere
-abbrev pub Right : List ℕ → ℕ → Found → Type 0
-Right keys key (Node m) = (0 < m) × (get_or keys (m - 1) 0 ≡ key)
-Right keys key Nothing = (p : ℕ) → get_or keys p 0 ≡ key → ⊥
+abbrev pub Right : List ℕ → ℕ → Option ℕ → Type 0
+Right keys key (Some m) = (0 < m) × (get_or keys (m - 1) 0 ≡ key)
+Right keys key None = (p : ℕ) → get_or keys p 0 ≡ key → ⊥
 
 -- the places in which entries were put
 pub record Sound (n : ℕ) (entries : List ℕ) : Type 0 where
@@ -66,7 +64,7 @@ sound_none n =
 pub sound_hole : (n : ℕ) (entries : List ℕ) → Sound n entries → length entries ≤ n / 2 → 0 < n → Holed (filled n entries)
 sound_hole n entries s h l = holed (filled n entries) (omega (arith, s.count, filled_length n entries))
 
-module _ (n : ℕ) (older : List ℕ) (e : ℕ) (s : Sound n older) (some : 0 < e) (none : node_of n older e ≡ Nothing) (h : length older + 1 ≤ n / 2) where
+module _ (n : ℕ) (older : List ℕ) (e : ℕ) (s : Sound n older) (some : 0 < e) (none : node_of n older e ≡ None) (h : length older + 1 ≤ n / 2) where
   abbrev before : List ℕ
   before = filled n older
 
@@ -79,9 +77,9 @@ module _ (n : ℕ) (older : List ℕ) (e : ℕ) (s : Sound n older) (some : 0 < 
   pub free : get_or (filled n older) (stop_of (filled n older) e) 0 ≡ 0
   free = ⊎_elim (λ x. absurd (subst (Right (filled n older) e) none (s.right e some) (stop_of (filled n older) e) x)) (λ x. x) spot.here
 
-  right_more : (key : ℕ) → 0 < key → (e ≡ key → ⊥) → (f : Found) → Right (filled n older) key f → Right (set (filled n older) (stop_of (filled n older) e) e) key f
-  right_more key k d (Node m) r = (r.0, stays (filled n older) e at s.table spot some free (m - 1) (key_busy (filled n older) key (m - 1) k r.1) ∙ r.1)
-  right_more key k d Nothing r = λ p x. elim (same? p at) [
+  right_more : (key : ℕ) → 0 < key → (e ≡ key → ⊥) → (f : Option ℕ) → Right (filled n older) key f → Right (set (filled n older) (stop_of (filled n older) e) e) key f
+  right_more key k d (Some m) r = (r.0, stays (filled n older) e at s.table spot some free (m - 1) (key_busy (filled n older) key (m - 1) k r.1) ∙ r.1)
+  right_more key k d None r = λ p x. elim (same? p at) [
     | inl y ↦ d (sym (at_new (filled n older) e at s.table spot some free) ∙ ap (λ (i : ℕ). get_or (set (filled n older) at e) i 0) (sym y) ∙ x)
     | inr y ↦ r p (sym (at_old (filled n older) e at s.table spot some free p y) ∙ x)
   ]
@@ -103,9 +101,9 @@ sound n (e ∷ older) o h =
     sound_more n older e (sound n older o.2 (omega arith)) o.0 (absent_nothing n older e o.1) (omega arith)
 
 -- a search answers what is right of a table with an empty place
-pub search_right : (keys : List ℕ) (key : ℕ) → Table keys → (0 < length keys → Holed keys) → 0 < key → (f : Found) → Right keys key f → found_in keys key ≡ f
+pub search_right : (keys : List ℕ) (key : ℕ) → Table keys → (0 < length keys → Holed keys) → 0 < key → (f : Option ℕ) → Right keys key f → found_in keys key ≡ f
 unfolding found_in
-search_right keys key t o k (Node m) r =
+search_right keys key t o k (Some m) r =
     let b = key_busy keys key (m - 1) k r.1 in
     let l = busy_in keys (m - 1) b in
     let s = stop_spot keys key (o (omega arith)) in
@@ -113,8 +111,8 @@ search_right keys key t o k (Node m) r =
     (λ x. let y : m - 1 ≡ stop_of keys key = t.once (m - 1) (stop_of keys key) b (r.1 ∙ sym x) in
     let p = r.0 in
     let z : stop_of keys key + 1 ≡ m = omega arith in
-    ap (λ c. cond c (Node (stop_of keys key + 1)) Nothing) (eq-eqb (get_or keys (stop_of keys key) 0) key x) ∙ ap (λ (i : ℕ). Node i) z)
+    ap (λ c. cond c (Some (stop_of keys key + 1)) None) (eq-eqb (get_or keys (stop_of keys key) 0) key x) ∙ ap (λ (i : ℕ). Some i) z)
     (λ x. absurd (nowhere keys key (stop_of keys key) t s k x (m - 1) r.1))
     s.here
-search_right keys key t o k Nothing r =
-    ap (λ c. cond c (Node (stop_of keys key + 1)) Nothing) (ne_eqb (get_or keys (stop_of keys key) 0) key (r (stop_of keys key)))
+search_right keys key t o k None r =
+    ap (λ c. cond c (Some (stop_of keys key + 1)) None) (ne_eqb (get_or keys (stop_of keys key) 0) key (r (stop_of keys key)))

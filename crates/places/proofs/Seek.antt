@@ -42,19 +42,17 @@ pub scanning_none : (keys : List ℕ) (key from to : ℕ) → from ≤ to → Sc
 scanning_none keys key from to h = record { upto = h; same = refl }
 
 module _ {keys : List ℕ} {key from to p : ℕ} (s : Scanning keys key from to p) where
-  pub scanning_end : to ≤ p → p ≡ seek keys key (to - from) from
+  pub scanning_end : to ≤ p → to ≡ seek keys key (to - from) from
   unfolding seek
-  scanning_end h = let e : to - p ≡ 0 = omega arith in rw e at s.same
+  scanning_end h = let (e, f) : (to - p ≡ 0) × (to ≡ p) = (omega (arith, s.upto), omega (arith, s.upto)) in f ∙ rw e at s.same
 
   module _ (h : p < to) where
     next : seek keys key (suc (to - (p + 1))) p ≡ seek keys key (to - from) from
     next = let e : to - p ≡ suc (to - (p + 1)) = omega arith in ap (λ (k : ℕ). seek keys key k p) (sym e) ∙ s.same
 
-    pub scanning_key : get_or keys p 0 ≡ key → p ≡ seek keys key (to - from) from
-    scanning_key e = sym (seek_key keys key (to - (p + 1)) p e) ∙ next
-
-    pub scanning_hole : get_or keys p 0 ≡ 0 → p ≡ seek keys key (to - from) from
-    scanning_hole e = sym (seek_hole keys key (to - (p + 1)) p e) ∙ next
+    pub scanning_here : Here keys key p → p ≡ seek keys key (to - from) from
+    scanning_here (inl e) = sym (seek_key keys key (to - (p + 1)) p e) ∙ next
+    scanning_here (inr e) = sym (seek_hole keys key (to - (p + 1)) p e) ∙ next
 
     pub scanning_more : (get_or keys p 0 ≡ key → ⊥) → (get_or keys p 0 ≡ 0 → ⊥) → Scanning keys key from to (p + 1)
     scanning_more x y = record { upto = omega arith; same = sym (seek_on keys key (to - (p + 1)) p (y, x)) ∙ next }

@@ -23,19 +23,11 @@ ghost use Rattle.places.specs.Walk.{key_of, home_of, seek, stop_of};
 ghost use Rattle.places.specs.Map.{found_in, inserted_in, put_in};
 ghost use Rattle.places.specs.Entries.{Finds, Inserts};
 
-// The child of a node by a character, if there is one.
-#[derive(Clone, Copy)]
-pub enum Found {
-    Node(u32),
-    Nothing,
-}
-
-// The child of a node by a character: it was there, or was made; or there was no room to make it.
-#[derive(Clone, Copy)]
+// The child of a node by a character: it was there, or was made.
+#[derive(Clone, Copy, Debug, PartialEq, Eq)]
 pub enum Inserted {
     Old(u32),
     New(u32),
-    NoRoom,
 }
 
 // A node and a character as one number, never 0.
@@ -43,7 +35,7 @@ pub fn key(node: u32, character: u32) -> u64
     requires { character < 4294967295 }
     ensures { result ≡ key_of node character }
 {
-    node as u64 * 4294967296 + (character as u64 + 1)
+    u64::from(node) * 4294967296 + (u64::from(character) + 1)
 }
 
 // The place at which the walk for a key begins, of so many.
@@ -51,10 +43,7 @@ pub fn home(key: u64, places: usize) -> usize
     requires { places ≤ 4294967295 }
     ensures { result ≡ home_of key places }
 {
-    let mixed = std::num::wrapping_add_u64(
-        key / 4294967296 * 2654435769,
-        key % 4294967296 * 3144134277,
-    );
+    let mixed = (key / 4294967296 * 2654435769).wrapping_add(key % 4294967296 * 3144134277);
     (mixed % 4294967296 * (places as u64) / 4294967296) as usize
 }
 
@@ -63,18 +52,13 @@ fn scan(keys: &[u64], key: u64, from: usize, to: usize) -> usize
     requires { (from ≤ to) × (to ≤ length keys.now) }
     ensures { result ≡ seek keys.now key (to - from) from }
 {
-    let mut p = from;
-    while p < to {
-        let k = keys[p];
-        if k == key {
+    for p in from..to {
+        let there = keys[p];
+        if there == key || there == 0 {
             return p;
         }
-        if k == 0 {
-            return p;
-        }
-        p += 1;
     }
-    p
+    to
 }
 
 // The place at which the walk for a key ends.
@@ -95,51 +79,46 @@ fn room(places: usize, count: usize) -> bool
     ensures { result ≡ nat_le (count + 2) (places / 2) }
 {
     let half = places / 2;
-    if half < 2 {
-        return false;
-    }
-    count <= half - 2
+    2 <= half && count <= half - 2
 }
 
 // The child of a node by a character.
-pub fn find(keys: &[u64], node: u32, character: u32) -> Found
+pub fn find(keys: &[u64], node: u32, character: u32) -> Option<u32>
     requires { (length keys.now ≤ 4294967295) × (character < 4294967295) }
     ensures value { result ≡ found_in keys.now (key_of node character) }
     ensures finds { Finds keys.now (key_of node character) result }
 {
-    if keys.len() == 0 {
-        return Found::Nothing;
+    if keys.is_empty() {
+        return None;
     }
     let k = key(node, character);
     let p = stop(keys, k);
     if keys[p] == k {
-        return Found::Node(p as u32 + 1);
+        Some(p as u32 + 1)
+    } else {
+        None
     }
-    Found::Nothing
 }
 
-// The child of a node by a character, made where there is none, in a table of `count` nodes besides the root.
-pub fn insert(keys: &mut [u64], node: u32, character: u32, count: usize) -> Inserted
+// The child of a node by a character, made where there is none and there is room, in a table of `count` nodes besides the root.
+pub fn insert(keys: &mut [u64], node: u32, character: u32, count: usize) -> Option<Inserted>
     requires { (length keys.old ≤ 4294967295) × (character < 4294967295) }
     ensures value { result ≡ inserted_in keys.old (key_of node character) count }
     ensures keys_after { keys.new ≡ put_in keys.old (key_of node character) count }
     ensures inserts { Inserts keys.old (key_of node character) count keys.new result }
 {
-    if keys.len() == 0 {
-        return Inserted::NoRoom;
+    if keys.is_empty() {
+        return None;
     }
     let k = key(node, character);
     let p = stop(keys, k);
     let there = keys[p];
     if there == k {
-        return Inserted::Old(p as u32 + 1);
+        return Some(Inserted::Old(p as u32 + 1));
     }
-    if there != 0 {
-        return Inserted::NoRoom;
-    }
-    if !room(keys.len(), count) {
-        return Inserted::NoRoom;
+    if there != 0 || !room(keys.len(), count) {
+        return None;
     }
     keys[p] = k;
-    Inserted::New(p as u32 + 1)
+    Some(Inserted::New(p as u32 + 1))
 }

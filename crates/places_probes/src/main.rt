@@ -59,123 +59,63 @@ const FAMILIES: u8 = 14;
 
 // Nodes and characters are taken into their ranges where they are used, so sums may wrap.
 fn add(a: u64, b: u64) -> u64 {
-    std::num::wrapping_add_u64(a, b)
+    a.wrapping_add(b)
+}
+
+impl Family {
+    // Node and character step.
+    fn steps(node: u64, node_step: u64, first: u64, step: u64) -> Family {
+        Family {
+            kind: Kind::Steps,
+            node,
+            node_step,
+            first,
+            step,
+            row: 1,
+        }
+    }
+
+    // The characters go through a row for each node from 1 on.
+    fn rows(first: u64, step: u64, row: u64) -> Family {
+        Family {
+            kind: Kind::Rows,
+            node: 1,
+            node_step: 1,
+            first,
+            step,
+            row,
+        }
+    }
+
+    // The keys of words, whose characters are drawn from a row.
+    fn words(first: u64, row: u64) -> Family {
+        Family {
+            kind: Kind::Words,
+            node: 0,
+            node_step: 0,
+            first,
+            step: 0,
+            row,
+        }
+    }
 }
 
 fn family_of(i: u8, size: u64) -> Family {
     match i {
-        0 => Family {
-            kind: Kind::Steps,
-            node: 1,
-            node_step: 1,
-            first: 0x65,
-            step: 0,
-            row: 1,
-        },
-        1 => Family {
-            kind: Kind::Steps,
-            node: 0,
-            node_step: 0,
-            first: 0,
-            step: 1,
-            row: 1,
-        },
-        2 => Family {
-            kind: Kind::Steps,
-            node: 0,
-            node_step: 0,
-            first: 0x4E00,
-            step: 1,
-            row: 1,
-        },
-        3 => Family {
-            kind: Kind::Rows,
-            node: 1,
-            node_step: 1,
-            first: 0xE00,
-            step: 1,
-            row: 96,
-        },
-        4 => Family {
-            kind: Kind::Rows,
-            node: 1,
-            node_step: 1,
-            first: 0x4E00,
-            step: 64,
-            row: 64,
-        },
-        5 => Family {
-            kind: Kind::Steps,
-            node: 0,
-            node_step: size,
-            first: 0x65,
-            step: 0,
-            row: 1,
-        },
-        6 => Family {
-            kind: Kind::Steps,
-            node: 0,
-            node_step: 0,
-            first: 0,
-            step: size,
-            row: 1,
-        },
-        7 => Family {
-            kind: Kind::Steps,
-            node: 0,
-            node_step: 4096,
-            first: 0x65,
-            step: 0,
-            row: 1,
-        },
-        8 => Family {
-            kind: Kind::Steps,
-            node: 0,
-            node_step: 1,
-            first: 0,
-            step: 1,
-            row: 1,
-        },
-        9 => Family {
-            kind: Kind::Steps,
-            node: size,
-            node_step: 18446744073709551615,
-            first: 0,
-            step: 1,
-            row: 1,
-        },
-        10 => Family {
-            kind: Kind::Words,
-            node: 0,
-            node_step: 0,
-            first: 0x61,
-            step: 0,
-            row: 1,
-        },
-        11 => Family {
-            kind: Kind::Words,
-            node: 0,
-            node_step: 0,
-            first: 0x61,
-            step: 0,
-            row: 26,
-        },
-        12 => Family {
-            kind: Kind::Words,
-            node: 0,
-            node_step: 0,
-            first: 0xE00,
-            step: 0,
-            row: 96,
-        },
-        _ => Family {
-            kind: Kind::Words,
-            node: 0,
-            node_step: 0,
-            first: 0x4E00,
-            step: 0,
-            row: 3000,
-        },
+        0 => Family::steps(1, 1, 0x65, 0),
+        1 => Family::steps(0, 0, 0, 1),
+        2 => Family::steps(0, 0, 0x4E00, 1),
+        3 => Family::rows(0xE00, 1, 96),
+        4 => Family::rows(0x4E00, 64, 64),
+        5 => Family::steps(0, size, 0x65, 0),
+        6 => Family::steps(0, 0, 0, size),
+        7 => Family::steps(0, 4096, 0x65, 0),
+        8 => Family::steps(0, 1, 0, 1),
+        9 => Family::steps(size, u64::MAX, 0, 1),
+        10 => Family::words(0x61, 1),
+        11 => Family::words(0x61, 26),
+        12 => Family::words(0xE00, 96),
+        _ => Family::words(0x4E00, 3000),
     }
 }
 
@@ -204,8 +144,7 @@ fn write_name(rt: &impl Print, i: u8) -> io::Result<()> {
 
 // The key after a key, where the last key's node is `last`.
 fn after(f: Family, key: Next, last: u64) -> Next {
-    let kind = f.kind;
-    match kind {
+    match f.kind {
         Kind::Steps => Next {
             node: add(key.node, f.node_step),
             character: add(key.character, f.step),
@@ -258,10 +197,6 @@ fn after(f: Family, key: Next, last: u64) -> Next {
     }
 }
 
-fn most(a: u64, b: u64) -> u64 {
-    if a < b { b } else { a }
-}
-
 // How many places a walk passes that begins at `from` and ends below a node, with the place where it ends.
 fn walked(node: u64, from: u64, size: u64) -> u64
     requires { 0 < size }
@@ -269,7 +204,7 @@ fn walked(node: u64, from: u64, size: u64) -> u64
     if from < node {
         return node - from;
     }
-    std::num::wrapping_sub_u64(add(node, size), from)
+    add(node, size).wrapping_sub(from)
 }
 
 // Inserts a key, and counts its walk if it is new.
@@ -282,30 +217,22 @@ fn one(keys: &mut [u64], node: u64, character: u64, t: Tally) -> Tally
     }
     let n = (node % 4294967296) as u32;
     let c = (character % 1114112) as u32;
-    let count = t.count;
-    match places::insert(keys, n, c, count as usize) {
-        Inserted::New(m) => {
+    match places::insert(keys, n, c, t.count as usize) {
+        Some(Inserted::New(m)) => {
             let from = places::home(places::key(n, c), size);
-            let walk = walked(m as u64, from as u64, size as u64);
+            let walk = walked(u64::from(m), from as u64, size as u64);
             Tally {
-                count: add(count, 1),
+                count: add(t.count, 1),
                 total: add(t.total, walk),
-                longest: most(t.longest, walk),
-                node: m as u64,
+                longest: t.longest.max(walk),
+                node: u64::from(m),
             }
         }
-        Inserted::Old(m) => Tally {
-            count,
-            total: t.total,
-            longest: t.longest,
-            node: m as u64,
+        Some(Inserted::Old(m)) => Tally {
+            node: u64::from(m),
+            ..t
         },
-        Inserted::NoRoom => Tally {
-            count,
-            total: t.total,
-            longest: t.longest,
-            node: 0,
-        },
+        None => Tally { node: 0, ..t },
     }
 }
 
@@ -333,25 +260,17 @@ fn fill(keys: &mut [u64], f: Family) -> Tally
     t
 }
 
-fn clear(keys: &mut [u64]) {
-    for p in 0..keys.len() {
-        keys[p] = 0;
-    }
-}
-
 // Goes down through the places, after a walk from the place above would pass `run`, and counts the walk from each place.
 fn missing(keys: &[u64], run: u64) -> Tally {
     let mut count: u64 = 0;
     let mut total: u64 = 0;
     let mut longest: u64 = 0;
     let mut walk = run;
-    let mut p = keys.len();
-    while 0 < p {
-        p -= 1;
-        walk = if keys[p] == 0 { 1 } else { add(walk, 1) };
+    for key in keys.iter().rev() {
+        walk = if *key == 0 { 1 } else { add(walk, 1) };
         count = add(count, 1);
         total = add(total, walk);
-        longest = most(longest, walk);
+        longest = longest.max(walk);
     }
     Tally {
         count,
@@ -409,7 +328,7 @@ fn report(rt: &impl Print, keys: &[u64], i: u8, there: Tally) -> io::Result<u64>
 fn case(rt: &impl Print, keys: &mut [u64], i: u8) -> io::Result<u64>
     requires { length keys.old ≤ 65536 }
 {
-    clear(keys);
+    keys.fill(0);
     let there = fill(keys, family_of(i, keys.len() as u64));
     report(rt, keys, i, there)
 }

@@ -1,6 +1,5 @@
--- The loops that close up a list: what is left moves to the front. For items of any type, and so for scores and for the
--- numbers of pieces. Assumes nothing.
-use mathlib.Core.Path.{◌≡◌, refl, sym, ap, ap₂, ◌∙◌, subst}
+-- The loop that closes up a list: what is left moves to the front. Assumes nothing.
+use mathlib.Core.Path.{◌≡◌, refl, sym, ap, ap₂, ◌∙◌}
 use mathlib.Core.Bool.{Bool, true, false, cond}
 use mathlib.Core.List.{List, ◌∷◌, ◌++◌, append-nil}
 use Prim.Native.Nat.{ℕ, suc, ◌+◌, ◌-◌, ◌≤◌, ◌<◌}
@@ -11,7 +10,6 @@ use lib.ListN.{length, get_or, set, take, drop, length-set, take-append-drop, dr
 use lib.Seq.{drop-cons, drop-drop, drop-set-lt, length-take-le}
 use Rattle.lattice.specs.Pruning.{gone}
 use Rattle.prune.specs.Compact.{surviving, compacted}
-use Rattle.prune.specs.Steps.{Place}
 use Rattle.prune.proofs.Walks.{stored}
 
 -- the items up to k have moved, and stand before `write`; from there on all is as it was
@@ -98,14 +96,3 @@ module _ {A : Type 0} {remap : List ℕ} {l₀ l : List A} {write k : ℕ} (c : 
               (drop-set-lt (suc k) l write v (omega (arith, c.behind)))
               ∙ stored l write v w (next_item false e) c.so_far;
         }
-
-    pub closing_place : Place (length l) remap write k
-    closing_place = record { behind = c.behind; entry = h; inside = in_list }
-
-    -- one item more
-    pub closing_more : {l' : List A} {write' : ℕ} → l' ≡ cond (eqb (get_or remap k 0) gone) l (set l write (get_or l k d))
-        → write' ≡ cond (eqb (get_or remap k 0) gone) write (write + 1) → Closing remap l₀ l' write' (k + 1)
-    closing_more {l'} {write'} p q =
-        subst (λ (x : List A). Closing remap l₀ x write' (k + 1)) (sym p)
-        (subst (λ (n : ℕ). Closing remap l₀ (cond (eqb (get_or remap k 0) gone) l (set l write (get_or l k d))) n (k + 1)) (sym q)
-        (closing_by (eqb (get_or remap k 0) gone) refl))

@@ -4,7 +4,7 @@ pub mod Ranks
 pub mod Marked
 pub mod Renewed
 pub mod Closing
-pub mod Pairs
+pub mod Spread
 pub mod Pruned
 pub mod Sorted
 pub mod Lives

@@ -11,7 +11,7 @@ use lib.ListN.{length}
 use borrow.Author.Tests.{leb-true, leb-false, le-leb, eqb-true, eqb-false, eq-eqb, ne_eqb}
 use Rattle.order.specs.Sort.{sort, In, Sorted}
 use Rattle.order.specs.Orders.{Each}
-use Rattle.order.proofs.Total.{Total}
+use Rattle.order.specs.Sort.{Total}
 use Rattle.order.proofs.Laws.{sort_in, in_sort, Stable, sort_stable}
 use Rattle.prune.specs.Prune.{loss, costlier, ids, ranking, among}
 use Rattle.prune.specs.Survive.{Ahead, living}

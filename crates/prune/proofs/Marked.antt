@@ -3,12 +3,12 @@
 use mathlib.Core.Path.{◌≡◌, refl, sym, ap, ◌∙◌, subst}
 use mathlib.Core.Bool.{Bool, true, false, cond, ◌||◌}
 use mathlib.Core.List.{List, [], ◌∷◌, ◌++◌, map}
-use Prim.Native.Nat.{ℕ, zero, suc, ◌+◌, ◌≤◌, ◌<◌}
+use Prim.Native.Nat.{ℕ, zero, suc, ◌+◌, ◌<◌}
 use native.Mathlib.Numerals.{add-one}
 use native.Mathlib.Omega.{arith}
 use lib.Dec.{eqb}
 use lib.ListN.{length, get_or, set, take, replicate, length-set, length-map, length-replicate, get_or-replicate}
-use lib.Seq.{take_all, take-suc, get_or-set_same, get_or-set_other, ext_get_or}
+use lib.Seq.{take-suc, get_or-set_same, get_or-set_other, ext_get_or}
 use borrow.Author.Tests.{eqb-true, eqb-false}
 use Rattle.lattice.specs.Pruning.{gone}
 use Rattle.prune.specs.Prune.{ids, among}
@@ -32,10 +32,6 @@ marked_more is remap k h e =
     ∙ sym (marked_last (take k is) (get_or is k 0) remap)
     ∙ ap (λ (x : List ℕ). marked x remap) (sym (take-suc is k 0 h))
     ∙ ap (λ (n : ℕ). marked (take n is) remap) (sym (add-one k))
-
-pub marked_all : (is remap : List ℕ) {now : List ℕ} (k : ℕ) → length is ≤ k → now ≡ marked (take k is) remap
-    → now ≡ marked is remap
-marked_all is remap k h e = e ∙ ap (λ (x : List ℕ). marked x remap) (take_all k is h)
 
 -- ---- what an entry holds
 abbrev here : Bool → ℕ → ℕ

@@ -1,24 +1,17 @@
 -- The steps of `survivors`, one after the other. Assumes nothing.
 use mathlib.Core.Path.{◌≡◌, sym, ap, ap₂, ◌∙◌, subst}
 use mathlib.Core.List.{List, map}
-use Prim.Native.Nat.{ℕ, ◌≤◌, ◌<◌}
-use native.Mathlib.Omega.{arith}
+use Prim.Native.Nat.{ℕ, ◌<◌}
 use lib.ListN.{length, take, replicate, length-replicate}
 use Rattle.lattice.specs.Pruning.{gone}
 use Rattle.order.specs.Orders.{Each}
 use Rattle.order.proofs.Items.{each_take}
 use Rattle.prune.specs.Prune.{ids, ranking, kept, among, remap_from, remap_of}
 use Rattle.prune.specs.Steps.{Pruning, alive, marked}
-use Rattle.prune.proofs.Ranks.{ranking_long, ranking_each}
+use Rattle.prune.proofs.Ranks.{ranking_each}
 use Rattle.prune.proofs.Marked.{marked_live}
 
 module _ {losses ranked remap : List ℕ} {required : ℕ} (p : Pruning losses required ranked remap) where
-  -- those kept are there
-  pub chosen_in : (keep : ℕ) {count : ℕ} {ranked' : List ℕ} → count ≡ kept required keep (length losses)
-      → ranked' ≡ ranking losses required
-      → count ≤ length ranked'
-  chosen_in keep c r = let a = ap length r ∙ ranking_long losses required p.there in let b = p.there in omega arith
-
   module _ {ranked' : List ℕ} (r : ranked' ≡ ranking losses required)
       {many : ℕ} (n : many ≡ length remap) {none : List ℕ} (d : none ≡ replicate many gone) where
     none_long : length none ≡ length losses

@@ -9,7 +9,7 @@ use lib.ListN.{length, get_or, take, drop, length-append, length-drop, length-ma
 use lib.Seq.{take_all, length-take-le}
 use borrow.Author.Tests.{leb-true, leb-false, le-leb, lt-leb}
 use Rattle.order.specs.Sort.{Order, ins, sort}
-use Rattle.order.specs.Orders.{by_key, Each, Sorting}
+use Rattle.order.specs.Orders.{by_key, HasKey, Each, Sorting}
 use Rattle.order.proofs.Items.{each_append, each_sort}
 use Rattle.prune.specs.Prune.{costlier, ids, ranking}
 use Rattle.order.proofs.Laws.{sort_long}
@@ -120,13 +120,13 @@ module _ {losses ranked work : List ℕ} {required : ℕ} (p : Pruning losses re
       ap (drop required) slots ∙ ids_drop 0 required (length losses) p.there
       ∙ ap (λ (k : ℕ). ids k (length losses - required)) z
 
-  pub rank_call : Sorting 0 losses' [] [] (take (length ranked' - required) (drop required ranked'))
+  pub rank_call : Sorting (HasKey losses') (take (length ranked' - required) (drop required ranked'))
       (take (length work - required) (drop required work))
   rank_call =
       let n = length losses in
       let m : length losses' ≡ n = ap length t ∙ length-map losses turned in
       record {
-        has =
+        each =
             subst (λ (l : List ℕ). Each (λ i. i < length losses') l) (sym (part_is ∙ others))
             (subst (λ (k : ℕ). Each (λ i. i < k) (ids required (n - required))) (sym m)
             (ids_each n required (n - required) (omega (arith, p.there))));

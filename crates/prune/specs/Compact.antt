@@ -1,5 +1,5 @@
 -- What is left of a list of one item a piece, and of two. Definitions only.
-use Rattle.std.specs.Prelude.{cond, List, [], ◌∷◌, ◌++◌, eqb, length, drop, ℕ}
+use Rattle.std.specs.Prelude.{cond, List, [], ◌∷◌, ◌++◌, eqb, length, drop, replicate, ℕ}
 use Rattle.lattice.specs.Pruning.{gone}
 
 -- the survivors' items, in their order: crate lattice's `survivors`, of any items
@@ -16,3 +16,8 @@ compacted remap l = surviving remap l ++ drop (length (surviving remap l)) l
 abbrev pub twice : List ℕ → List ℕ
 twice [] = []
 twice (r ∷ rs) = r ∷ r ∷ twice rs
+
+-- each entry so many times, and so `twice` twice: proofs/Spread.antt
+abbrev pub spread : ℕ → List ℕ → List ℕ
+spread width [] = []
+spread width (r ∷ rs) = replicate width r ++ spread width rs

@@ -1,5 +1,5 @@
 -- What the steps ask for and do. Definitions only.
-use Rattle.std.specs.Prelude.{◌≡◌, Bool, not, List, [], ◌∷◌, ℕ, ◌+◌, ◌*◌, ◌-◌, ◌≤◌, ◌<◌, eqb, length, set}
+use Rattle.std.specs.Prelude.{◌≡◌, Bool, not, List, [], ◌∷◌, ℕ, ◌-◌, ◌≤◌, eqb, length, set}
 use Rattle.lattice.specs.Pruning.{gone}
 
 -- slices cut to the pieces there are, of which so many are required; new ids stay below `u32::MAX`
@@ -8,18 +8,6 @@ pub record Pruning (losses : List ℕ) (required : ℕ) (ranked remap : List ℕ
   pub in_remap : length remap ≡ length losses
   pub there : required ≤ length losses
   pub few : length losses ≤ gone
-
--- an item can be read, and has a remap entry; its place to be lies no further than itself
-pub record Place (slots : ℕ) (remap : List ℕ) (write id : ℕ) : Type 0 where
-  pub behind : write ≤ id
-  pub entry : id < length remap
-  pub inside : id < slots
-
--- and so of two numbers
-pub record PiecePlace (slots : ℕ) (remap : List ℕ) (write id : ℕ) : Type 0 where
-  pub behind : write ≤ id
-  pub entry : id < length remap
-  pub inside : 2 * id + 1 < slots
 
 -- the costliest has the lowest key: `u64::MAX` less its bits
 abbrev pub turned : ℕ → ℕ

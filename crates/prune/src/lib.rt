@@ -13,10 +13,10 @@ ghost use Rattle.std.specs.Float.{nan};
 ghost use Rattle.lattice.specs.Pruning.{gone};
 ghost use Rattle.order.specs.Orders.{Each};
 ghost use Rattle.prune.specs.Prune.{ids, ranking, kept, remap_from, remap_of};
-ghost use Rattle.prune.specs.Compact.{surviving, compacted, twice};
-ghost use Rattle.prune.specs.Steps.{Pruning, Place, PiecePlace, turned, alive, marked};
+ghost use Rattle.prune.specs.Compact.{surviving, compacted, twice, spread};
+ghost use Rattle.prune.specs.Steps.{Pruning, turned, alive, marked};
 
-use order::{BY_KEYS, sort};
+use order::{ByKeys, sort};
 
 // `u32::MAX`: the piece is gone.
 const GONE: u32 = 0xffff_ffff;
@@ -28,10 +28,8 @@ const LIVES: u32 = 0;
 fn turn(losses: &mut [u64])
     ensures { losses.new ≡ map turned losses.old }
 {
-    let mut id = 0;
-    while id < losses.len() {
-        losses[id] = u64::MAX - losses[id];
-        id += 1;
+    for loss in losses.iter_mut() {
+        *loss = u64::MAX - *loss;
     }
 }
 
@@ -40,36 +38,9 @@ fn fill_ids(ranked: &mut [u32])
     requires { length ranked.old ≤ gone }
     ensures { ranked.new ≡ ids 0 (length ranked.old) }
 {
-    let mut id = 0;
-    while id < ranked.len() {
-        ranked[id] = id as u32;
-        id += 1;
+    for (id, slot) in ranked.iter_mut().enumerate() {
+        *slot = id as u32;
     }
-}
-
-// No piece lives.
-fn drop_all(remap: &mut [u32])
-    ensures { remap.new ≡ replicate (length remap.old) gone }
-{
-    let mut id = 0;
-    while id < remap.len() {
-        remap[id] = GONE;
-        id += 1;
-    }
-}
-
-// How many pieces survive: those required at least, and no more than there are.
-fn kept(required: usize, keep: usize, pieces: usize) -> usize
-    requires { required ≤ pieces }
-    ensures { result ≡ kept required keep pieces }
-{
-    if keep < required {
-        return required;
-    }
-    if pieces < keep {
-        return pieces;
-    }
-    keep
 }
 
 // These pieces live.
@@ -77,25 +48,9 @@ fn mark(survivors: &[u32], remap: &mut [u32])
     requires { Each (λ id. id < length remap.old) survivors.now }
     ensures { remap.new ≡ marked survivors.now remap.old }
 {
-    let mut k = 0;
-    while k < survivors.len() {
-        let id = survivors[k] as usize;
-        remap[id] = LIVES;
-        k += 1;
+    for id in survivors {
+        remap[*id as usize] = LIVES;
     }
-}
-
-// A piece that lives gets its new id, `next`. Answers the new id of the next one.
-fn renew(remap: &mut [u32], id: usize, next: usize) -> usize
-    requires { (id < length remap.old) × (next < gone) }
-    ensures remap_after { remap.new ≡ cond (eqb (get_or remap.old id 0) gone) remap.old (set remap.old id next) }
-    ensures value { result ≡ cond (eqb (get_or remap.old id 0) gone) next (next + 1) }
-{
-    if remap[id] == GONE {
-        return next;
-    }
-    remap[id] = next as u32;
-    next + 1
 }
 
 // Each piece that lives gets as its new id the count of survivors before it.
@@ -104,10 +59,11 @@ fn renew_all(remap: &mut [u32])
     ensures { remap.new ≡ remap_from 0 (map alive remap.old) }
 {
     let mut next = 0;
-    let mut id = 0;
-    while id < remap.len() {
-        next = renew(remap, id, next);
-        id += 1;
+    for entry in remap.iter_mut() {
+        if *entry != GONE {
+            *entry = next;
+            next += 1;
+        }
     }
 }
 
@@ -118,14 +74,8 @@ fn rank(losses: &mut [u64], required: usize, ranked: &mut [u32], work: &mut [u32
 {
     turn(losses);
     fill_ids(ranked);
-    sort(
-        BY_KEYS,
-        losses,
-        &[],
-        &[],
-        &mut ranked[required..],
-        &mut work[required..],
-    );
+    let by_losses = ByKeys { keys: losses };
+    sort(&by_losses, &mut ranked[required..], &mut work[required..]);
 }
 
 // The remap of a pruning to `keep` pieces, of which the first `required` are always kept. Answers how many survive. `losses`
@@ -141,25 +91,30 @@ pub fn survivors(
     ensures value { result ≡ kept required keep (length losses.old) }
     ensures remap_after { remap.new ≡ remap_of losses.old required keep }
 {
-    let count = kept(required, keep, losses.len());
+    let count = keep.clamp(required, losses.len());
     rank(losses, required, ranked, remap);
-    drop_all(remap);
+    remap.fill(GONE);
     mark(&ranked[..count], remap);
     renew_all(remap);
     count
 }
 
-// A score whose piece lives moves down to `write`. Answers the next free place.
-fn keep_score(scores: &mut [f64], remap: &[u32], write: usize, id: usize) -> usize
-    requires { Place (length scores.old) remap.now write id }
-    ensures scores_after { scores.new ≡ cond (eqb (get_or remap.now id 0) gone) scores.old (set scores.old write (get_or scores.old id nan)) }
-    ensures value { result ≡ cond (eqb (get_or remap.now id 0) gone) write (write + 1) }
+// What is left of the items of all pieces, of which each has `WIDTH`, moves to the front in its order; what stands behind is as
+// it was. Answers how many items they are.
+fn compact<T: Copy, const WIDTH: usize>(items: &mut [T], remap: &[u32]) -> usize
+    requires some { 0 < WIDTH }
+    requires room { WIDTH * length remap.now ≤ length items.old }
+    ensures value { result ≡ length (surviving (spread WIDTH remap.now) items.old) }
+    ensures items_after { items.new ≡ compacted (spread WIDTH remap.now) items.old }
 {
-    if remap[id] == GONE {
-        return write;
+    let mut write = 0;
+    for item in 0..WIDTH * remap.len() {
+        if remap[item / WIDTH] != GONE {
+            items[write] = items[item];
+            write += 1;
+        }
     }
-    scores[write] = scores[id];
-    write + 1
+    write
 }
 
 // The scores of the survivors move to the front in their order; what stands behind is as it was. Answers how many they are.
@@ -168,29 +123,7 @@ pub fn compact_scores(scores: &mut [f64], remap: &[u32]) -> usize
     ensures value { result ≡ length (surviving remap.now scores.old) }
     ensures scores_after { scores.new ≡ compacted remap.now scores.old }
 {
-    let mut write = 0;
-    let mut id = 0;
-    while id < remap.len() {
-        write = keep_score(scores, remap, write, id);
-        id += 1;
-    }
-    write
-}
-
-// The two numbers of a piece that lives move down to `write`. Answers the next free place.
-fn keep_piece(pieces: &mut [u32], remap: &[u32], write: usize, id: usize) -> usize
-    requires { PiecePlace (length pieces.old) remap.now write id }
-    ensures pieces_after { pieces.new ≡ cond (eqb (get_or remap.now id 0) gone) pieces.old (set (set pieces.old (2 * write) (get_or pieces.old (2 * id) 0)) (2 * write + 1) (get_or pieces.old (2 * id + 1) 0)) }
-    ensures value { result ≡ cond (eqb (get_or remap.now id 0) gone) write (write + 1) }
-{
-    if remap[id] == GONE {
-        return write;
-    }
-    let from = pieces[2 * id];
-    let bytes = pieces[2 * id + 1];
-    pieces[2 * write] = from;
-    pieces[2 * write + 1] = bytes;
-    write + 1
+    compact::<f64, 1>(scores, remap)
 }
 
 // The survivors of a list of pieces, two numbers each, move to the front in their order; what stands behind is as it was.
@@ -200,11 +133,5 @@ pub fn compact_pieces(pieces: &mut [u32], remap: &[u32]) -> usize
     ensures result_value { 2 * result ≡ length (surviving (twice remap.now) pieces.old) }
     ensures pieces_after { pieces.new ≡ compacted (twice remap.now) pieces.old }
 {
-    let mut write = 0;
-    let mut id = 0;
-    while id < remap.len() {
-        write = keep_piece(pieces, remap, write, id);
-        id += 1;
-    }
-    write
+    compact::<u32, 2>(pieces, remap) / 2
 }

@@ -5,8 +5,7 @@ use Prim.Native.Nat.{ℕ}
 use native.Mathlib.Decide.{dec_lt}
 use native.Mathlib.Omega.{arith}
 use Rattle.repeats.specs.Repeats.{Lowest, Answers}
-use Rattle.repeats.specs.declared.Repeated.{Repeated}
-use Rattle.repeats.specs.declared.Repeated.TheVariants.{Nothing, At}
+use Rattle.std.specs.Prelude.{Option, Some, None}
 
 one_lowest : (text spans : List ℕ) (j k : ℕ) → Lowest text spans j → Lowest text spans k → j ≡ k
 one_lowest text spans j k a b = elim (dec_lt j k) [
@@ -17,8 +16,8 @@ one_lowest text spans j k a b = elim (dec_lt j k) [
   ]
 ]
 
-pub one_answer : (text spans : List ℕ) (r s : Repeated) → Answers text spans r → Answers text spans s → r ≡ s
-one_answer text spans Nothing Nothing a b = refl
-one_answer text spans Nothing (At k) a b = absurd (a k b.within b.again)
-one_answer text spans (At k) Nothing a b = absurd (b k a.within a.again)
-one_answer text spans (At j) (At k) a b = ap At (one_lowest text spans j k a b)
+pub one_answer : (text spans : List ℕ) (r s : Option ℕ) → Answers text spans r → Answers text spans s → r ≡ s
+one_answer text spans None None a b = refl
+one_answer text spans None (Some k) a b = absurd (a k b.within b.again)
+one_answer text spans (Some k) None a b = absurd (b k a.within a.again)
+one_answer text spans (Some j) (Some k) a b = ap Some (one_lowest text spans j k a b)

@@ -4,12 +4,10 @@ use mathlib.Core.List.{List}
 use Prim.Native.Nat.{ℕ, ◌+◌, ◌-◌, ◌≤◌, ◌<◌}
 use native.Mathlib.Decide.{dec_lt}
 use native.Mathlib.Omega.{arith}
-use lib.ListN.{get_or, set}
+use lib.ListN.{get_or}
 use Rattle.spans.specs.Spans.{many, octets}
-use Rattle.repeats.specs.Repeats.{Again}
 use Rattle.repeats.specs.Chains.{bucket_of, Latest, Chained, Turning}
 use Rattle.repeats.proofs.Hashes.{same_bucket}
-use Rattle.repeats.proofs.Chains.{chained_more}
 
 -- e is an index in the bucket of k, plus 1, or 0; and k's bytes do not stand from e up to k
 pub record Walking (text spans : List ℕ) (k e : ℕ) : Type 0 where
@@ -44,12 +42,6 @@ module _ {text spans : List ℕ} {k : ℕ} where
     pub walking_link : {table : List ℕ} → Chained (bucket_of text spans) (many spans) table k → 0 < e → (octets text spans (e - 1) ≡ octets text spans k → ⊥) → Walking text spans k (get_or table (e - 1) 0)
     walking_link {table} c p o = further (get_or table (e - 1) 0) p o (c.links (e - 1) (let b = w.upto in omega arith))
 
-    pub walking_found : 0 < e → octets text spans (e - 1) ≡ octets text spans k → Again text spans k
-    walking_found p s = (e - 1, let b = w.upto in omega arith, s)
-
-    pub walking_end : e ≤ 0 → Again text spans k → ⊥
-    walking_end z a = w.none a.0 (omega arith) a.1 a.2
-
 -- a turn: the walk begins at the head of k's bucket, and k becomes the head
 module _ {text spans table : List ℕ} {k : ℕ} (t : Turning text spans table k) (b m : ℕ) (own : b ≡ bucket_of text spans k) (bound : b < many spans) (count : m ≡ many spans) where
   place : m + b ≡ many spans + bucket_of text spans k
@@ -57,8 +49,3 @@ module _ {text spans table : List ℕ} {k : ℕ} (t : Turning text spans table k
 
   pub walking_none : Walking text spans k (get_or table (m + b) 0)
   walking_none = subst (λ (j : ℕ). Walking text spans k (get_or table j 0)) (sym place) (walking_head (t.chained.heads (bucket_of text spans k) (omega arith)))
-
-  pub turned : Chained (bucket_of text spans) (many spans) (set (set table k (get_or table (m + b) 0)) (m + b) (k + 1)) (k + 1)
-  turned =
-      subst (λ (j : ℕ). Chained (bucket_of text spans) (many spans) (set (set table k (get_or table j 0)) j (k + 1)) (k + 1)) (sym place)
-      (chained_more (bucket_of text spans) (many spans) table k t.within t.call.room (omega arith) t.chained)

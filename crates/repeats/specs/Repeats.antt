@@ -1,9 +1,7 @@
 -- Words and pieces that stand twice: refusals 4, "equal bytes to an earlier word", and 15, "a spelling stands twice".
 -- Definitions only.
-use Rattle.std.specs.Prelude.{◌≡◌, List, ℕ, ◌*◌, ◌≤◌, ◌<◌, length}
+use Rattle.std.specs.Prelude.{◌≡◌, List, ℕ, ◌*◌, ◌≤◌, ◌<◌, length, Option, Some, None}
 use Rattle.spans.specs.Spans.{many, Inside, octets}
-use Rattle.repeats.specs.declared.Repeated.{Repeated}
-use Rattle.repeats.specs.declared.Repeated.TheVariants.{Nothing, At}
 
 -- k's bytes stand at an earlier index too
 abbrev pub Again : List ℕ → List ℕ → ℕ → Type 0
@@ -15,9 +13,9 @@ pub record Lowest (text spans : List ℕ) (k : ℕ) : Type 0 where
   pub again : Again text spans k
   pub lowest : (j : ℕ) → j < k → Again text spans j → ⊥
 
-abbrev pub Answers : List ℕ → List ℕ → Repeated → Type 0
-Answers text spans Nothing = (k : ℕ) → k < many spans → Again text spans k → ⊥
-Answers text spans (At k) = Lowest text spans k
+abbrev pub Answers : List ℕ → List ℕ → Option ℕ → Type 0
+Answers text spans None = (k : ℕ) → k < many spans → Again text spans k → ⊥
+Answers text spans (Some k) = Lowest text spans k
 
 -- what a call asks: spans inside their text, two entries of the table for each, and numbers that an entry can hold
 pub record Repeating (text spans table : List ℕ) : Type 0 where

@@ -15,39 +15,31 @@
 // one is the best. Whoever knows it can still choose words that share a bucket: the search is then slow, and right.
 #![tactic(auto)]
 
-ghost use Rattle.std.specs.Prelude.{◌≡◌, false, ◌+◌, ◌≤◌, ◌<◌, length, get_or};
+ghost use Rattle.std.specs.Prelude.{◌≡◌, false, ◌+◌, ◌<◌};
 ghost use Rattle.laws.specs.Tests.{Says};
-ghost use Rattle.laws.proofs.Ranges.{Between};
 ghost use Rattle.spans.specs.Spans.{many, Inside, octets};
 ghost use Rattle.repeats.specs.Repeats.{Again, Answers, Repeating};
 ghost use Rattle.repeats.specs.Chains.{mixed, hash_of, bucket_of, Chained, Turning};
 
-use spans::{bytes, count, from};
-
-// The lowest index whose bytes stand before it too, or none.
-#[derive(Clone, Copy)]
-pub enum Repeated {
-    Nothing,
-    At(usize),
-}
+use spans::{count, octets};
 
 // A hash and one byte more.
+#[tactic(auto, unfolding(crate::specs::Chains::mixed))]
 fn mix(h: u64, byte: u8) -> u64
     requires { h < 4294967296 }
     ensures { (result ≡ mixed h byte) × (result < 4294967296) }
 {
-    (h + byte as u64) * 2654435769 % 4294967296
+    (h + u64::from(byte)) * 2654435769 % 4294967296
 }
 
 // The hash of some bytes.
-fn hash(octets: &[u8]) -> u64
-    ensures { (result ≡ hash_of octets.now) × (result < 4294967296) }
+#[tactic(auto, unfolding(crate::specs::Chains::mixed_all))]
+fn hash(word: &[u8]) -> u64
+    ensures { (result ≡ hash_of word.now) × (result < 4294967296) }
 {
-    let mut h: u64 = 2166136261;
-    let mut k = 0;
-    while k < octets.len() {
-        h = mix(h, octets[k]);
-        k += 1;
+    let mut h = 2166136261;
+    for &byte in word {
+        h = mix(h, byte);
     }
     h
 }
@@ -57,27 +49,8 @@ fn bucket(text: &[u8], spans: &[u32], k: usize) -> usize
     requires { (k < many spans.now) × Inside text.now spans.now k × (many spans.now < 4294967295) }
     ensures { (result ≡ bucket_of text.now spans.now k) × (result < many spans.now) }
 {
-    let low = from(spans, k);
-    let high = low + bytes(spans, k);
-    let h = hash(&text[low..high]);
+    let h = hash(octets(text, spans, k));
     (h * (count(spans) as u64) / 4294967296) as usize
-}
-
-// Whether two lists of bytes are equal.
-fn same(a: &[u8], b: &[u8]) -> bool
-    ensures { Says result (a.now ≡ b.now) }
-{
-    if a.len() != b.len() {
-        return false;
-    }
-    let mut k = 0;
-    while k < a.len() {
-        if a[k] != b[k] {
-            return false;
-        }
-        k += 1;
-    }
-    true
 }
 
 // Whether two indexes have equal bytes.
@@ -86,11 +59,7 @@ fn equal_spans(text: &[u8], spans: &[u32], i: usize, k: usize) -> bool
     requires inside { Inside text.now spans.now i × Inside text.now spans.now k }
     ensures { Says result (octets text.now spans.now i ≡ octets text.now spans.now k) }
 {
-    let low = from(spans, i);
-    let high = low + bytes(spans, i);
-    let start = from(spans, k);
-    let end = start + bytes(spans, k);
-    same(&text[low..high], &text[start..end])
+    octets(text, spans, i) == octets(text, spans, k)
 }
 
 // Whether the bytes of k stand at an earlier index, which would be in the same bucket.
@@ -100,6 +69,7 @@ fn seen(text: &[u8], spans: &[u32], table: &[u32], k: usize, bucket: usize) -> b
     ensures { Says result (Again text.now spans.now k) }
 {
     let mut e = table[count(spans) + bucket] as usize;
+    // A `while`, since an entry says which one comes next.
     while 0 < e {
         if equal_spans(text, spans, e - 1, k) {
             return true;
@@ -125,31 +95,17 @@ fn turn(text: &[u8], spans: &[u32], table: &mut [u32], k: usize) -> bool
     false
 }
 
-// Zeros in the table from one entry up to another.
-fn clear(table: &mut [u32], from: usize, to: usize)
-    requires { (from ≤ to) × (to ≤ length table.old) }
-    ensures { Between (λ j. get_or table.new j 0 ≡ 0) from to }
-{
-    let mut j = from;
-    while j < to {
-        table[j] = 0;
-        j += 1;
-    }
-}
-
-// The lowest index whose bytes stand at an earlier index too.
-pub fn repeat(text: &[u8], spans: &[u32], table: &mut [u32]) -> Repeated
+// The lowest index whose bytes stand at an earlier index too, if there is one.
+pub fn repeat(text: &[u8], spans: &[u32], table: &mut [u32]) -> Option<usize>
     requires { Repeating text.now spans.now table.old }
     ensures { Answers text.now spans.now result }
 {
     let many = count(spans);
-    clear(table, many, 2 * many);
-    let mut k = 0;
-    while k < many {
+    table[many..2 * many].fill(0);
+    for k in 0..many {
         if turn(text, spans, table, k) {
-            return Repeated::At(k);
+            return Some(k);
         }
-        k += 1;
     }
-    Repeated::Nothing
+    None
 }

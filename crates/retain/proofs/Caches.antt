@@ -1,5 +1,5 @@
 -- The loop over a cache's words: after k of them the slices hold the first k lattices pruned. Assumes nothing.
-use mathlib.Core.Path.{◌≡◌, refl, sym, ap, ◌∙◌, subst}
+use mathlib.Core.Path.{◌≡◌, sym, ap, ◌∙◌, subst}
 use mathlib.Core.List.{List, [], map}
 use Prim.Native.Nat.{ℕ, suc, ◌+◌, ◌*◌, ◌≤◌, ◌<◌}
 use native.Mathlib.Numerals.{add-one}
@@ -38,10 +38,7 @@ module _ {words : ℕ} {m offs s i sp : List ℕ} {lattices : List (List (List E
   pub room : 4 * words ≤ length sp
   room = let a = begin_long (spans_from 0 0 lattices) sp laid.begins.spans_begin in let b = spans_long 0 0 lattices in let c = laid.many in omega arith
 
-  -- none, one more and all
-  pub written_none : Written (retained m (take 0 lattices)) offs s i sp offs s i sp 0
-  written_none = record { edges = refl; offsets_are = refl; starts_are = refl; ids_are = refl; spans_are = refl }
-
+  -- one more, and all
   module _ (k : ℕ) (h : k < words) {offs' s' i' sp' : List ℕ} {w : ℕ} (P : Written (retained m (take k lattices)) offs s i sp offs' s' i' sp' w) where
     pub ready_at : Span offs' s' i' sp' m w (4 * k)
     ready_at = subst (λ (n : ℕ). Span offs' s' i' sp' m w (4 * n)) (long_at k h) (ready (turn_at k h) P)

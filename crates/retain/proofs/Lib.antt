@@ -8,7 +8,6 @@ pub mod Caches
 pub mod Below
 pub mod Built
 pub mod Checked
-pub mod Remaps
 pub mod Refused
 pub mod Cleared
 pub mod Held

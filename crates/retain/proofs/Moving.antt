@@ -6,7 +6,7 @@ use Prim.Native.Nat.{ℕ, zero, suc, ◌+◌, ◌-◌, ◌≤◌, ◌<◌}
 use native.Mathlib.Omega.{arith}
 use lib.Dec.{eqb}
 use lib.ListN.{length, get_or, set, length-append, length-map}
-use lib.Seq.{sets, length-sets, get_or-set_other, set-get_or}
+use lib.Seq.{sets, length-sets, get_or-set_other}
 use Rattle.lattice.specs.Pruning.{gone}
 use Rattle.lattice.proofs.Fronts.{sets_append}
 use Rattle.retain.specs.Moves.{new_id, stay, kept, kept_to, Moved, Run, Spot}
@@ -19,15 +19,6 @@ after l i (v ∷ vs) k d h = after (set l i v) (suc i) vs k d (omega arith) ∙ 
 map_join : (f : ℕ → ℕ) (xs ys : List ℕ) → map f (xs ++ ys) ≡ map f xs ++ map f ys
 map_join f [] ys = refl
 map_join f (x ∷ xs) ys = ap (λ (l : List ℕ). f x ∷ l) (map_join f xs ys)
-
--- one of two numbers that lie in a range
-pub at_most : (b : Bool) {r x y : ℕ} → r ≡ cond b x y → x ≤ y → r ≤ y
-at_most true e h = omega arith
-at_most false e h = omega arith
-
-pub both_below : (b : Bool) {r x y n : ℕ} → r ≡ cond b x y → x < n → y < n → r < n
-both_below true e h g = omega arith
-both_below false e h g = omega arith
 
 -- ---- the edges that stay
 kept_add : (m i : List ℕ) (k a b : ℕ) → kept m i k (a + b) ≡ kept m i k a ++ kept m i (k + a) b
@@ -56,9 +47,6 @@ kept_one m i r =
     let e : r + 1 - r ≡ 1 = omega arith in
     let f : r + 0 ≡ r = omega arith in
     ap (kept m i r) e ∙ ap (stay m i) f
-
-pub kept_nil : (m i : List ℕ) (r : ℕ) → kept_to m i r r ≡ []
-kept_nil m i r = let e : r - r ≡ 0 = omega arith in ap (kept m i r) e
 
 short_one : (b : Bool) (k : ℕ) → length (cond b [] (k ∷ [])) ≤ 1
 short_one true k = omega arith
@@ -91,14 +79,6 @@ map_kept f g m i lo (suc n) e =
     ∙ sym (map_join g (kept m i lo n) (stay m i (lo + n)))
 
 -- ---- moves
-pub moved_none : (s i m : List ℕ) (w lo : ℕ) → Moved s i m w (kept_to m i lo lo) s i w
-moved_none s i m w lo = rw kept_nil (record { count = omega arith; starts_are = refl; ids_are = refl })
-
--- an edge whose piece is gone: what stands at `write` is written again; and any other edge
-pub moved_either : (s i m : List ℕ) (w k : ℕ) (b : Bool) → Moved s i m w (cond b [] (k ∷ [])) (set s w (get_or s (cond b w k) 0)) (set i w (cond b (get_or i w 0) (new_id m i k))) (cond b w (w + 1))
-moved_either s i m w k true = record { count = omega arith; starts_are = set-get_or s w 0; ids_are = set-get_or i w 0 }
-moved_either s i m w k false = record { count = omega arith; starts_are = refl; ids_are = refl }
-
 -- the next place lies no further than what has been read
 pub moved_behind : {s i m : List ℕ} {w : ℕ} {s' i' : List ℕ} {x : ℕ} (lo mid : ℕ) → lo ≤ mid → w ≤ lo → Moved s i m w (kept_to m i lo mid) s' i' x → x ≤ mid
 moved_behind {s} {i} {m} lo mid a b v = let h = short m i lo (mid - lo) in let e = v.count in omega arith

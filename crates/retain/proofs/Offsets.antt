@@ -1,5 +1,5 @@
 -- One word's offsets, rewritten from the front while its edges move. Assumes nothing.
-use mathlib.Core.Path.{◌≡◌, refl, sym, ap, ◌∙◌, subst}
+use mathlib.Core.Path.{◌≡◌, sym, ap, ◌∙◌, subst}
 use mathlib.Core.List.{List, [], ◌∷◌, ◌++◌, map, append-nil, append_assoc}
 use Prim.Native.Nat.{ℕ, zero, suc, ◌+◌, ◌-◌, ◌≤◌, ◌<◌}
 use native.Mathlib.Nat.{le_refl, le_trans}
@@ -8,15 +8,12 @@ use native.Mathlib.Omega.{arith}
 use lib.ListN.{length, get_or, take, drop, set, length-set, length-map, get_or-map, drop_of_length-le}
 use lib.Seq.{take-suc, drop-cons, set_at, take_all, length-take-le, get_or-append-add, get_or-drop}
 use Rattle.retain.specs.Moves.{kept_to, rank, Moved, End, Word}
-use Rattle.retain.proofs.Moving.{moved_none, moved_join, moved_long, moved_count, ids_after}
+use Rattle.retain.proofs.Moving.{moved_join, moved_long, moved_count, ids_after}
 
 -- f of each of the first p, and the rest as it was
 pub record Mapped (f : ℕ → ℕ) (base : List ℕ) (p : ℕ) (l : List ℕ) : Type 0 where
   pub is : l ≡ take p (map f base) ++ drop p base
   pub long : length l ≡ length base
-
-pub mapped_none : (f : ℕ → ℕ) (base : List ℕ) → Mapped f base 0 base
-mapped_none f base = record { is = refl; long = refl }
 
 front : (f : ℕ → ℕ) (base : List ℕ) (p : ℕ) → p ≤ length base → length (take p (map f base)) ≡ p
 front f base p h = length-take-le p (map f base) (let e = length-map base f in omega arith)
@@ -57,12 +54,6 @@ climbs a n h (suc d) q e = le_trans (h q (omega arith)) (climbs a n h d (q + 1) 
 pub record Going (offs s i m : List ℕ) (base w n p : ℕ) (l s' i' : List ℕ) (at : ℕ) : Type 0 where
   pub new : Mapped (rank m i base) offs p l
   pub moved : Moved s i m w (kept_to m i base (base + get_or offs p 0)) s' i' at
-  pub near : p ≤ n + 1
-
-pub going_none : {offs s i m : List ℕ} {base w n : ℕ} → Word offs s i m base w n → Going offs s i m base w n 0 offs s i w
-going_none {offs} {s} {i} {m} {base} {w} {n} u =
-    let e : base + get_or offs 0 0 ≡ base = let f = u.first in omega arith in
-    record { new = mapped_none (rank m i base) offs; moved = rw e (moved_none s i m w base); near = omega arith }
 
 pub at_most : {offs s i m : List ℕ} {base w n p : ℕ} {l s' i' : List ℕ} {at : ℕ} → Going offs s i m base w n p l s' i' at → (w ≤ at) × (at ≤ w + get_or offs p 0)
 at_most {offs} {s} {i} {m} {base} {w} {n} {p} v = let c = moved_count base (base + get_or offs p 0) v.moved in (omega arith, omega arith)
@@ -100,13 +91,10 @@ going_more {offs} {s} {i} {m} {base} {w} {n} {p} {l} {s'} {i'} {l''} {s''} {i''}
     record {
       new = rw e (mapped_more (at - w) (omega arith) (omega arith) v.new);
       moved = moved_join base (base + get_or offs p 0) (base + get_or offs (p + 1) 0) f (omega arith) (omega arith) v.moved (rw (e0, e1) at t);
-      near = omega arith;
     }
 
-pub going_all : {offs s i m : List ℕ} {base w n p : ℕ} {l s' i' : List ℕ} {at : ℕ} → Word offs s i m base w n → n < p → Going offs s i m base w n p l s' i' at
-    → Moved s i m w (kept_to m i base (base + get_or offs (n + 1) 0)) s' i' at × (set l p (at - w) ≡ map (rank m i base) offs)
-going_all {offs} {s} {i} {m} {base} {w} {n} {p} {l} {s'} {i'} {at} u h v =
+pub going_all : {offs s i m : List ℕ} {base w n : ℕ} {l s' i' : List ℕ} {at : ℕ} → Word offs s i m base w n → Going offs s i m base w n (n + 1) l s' i' at → set l (n + 1) (at - w) ≡ map (rank m i base) offs
+going_all {offs} {s} {i} {m} {base} {w} {n} {l} {s'} {i'} {at} u v =
     let k = u.many in
-    let q : p ≡ n + 1 = let z = v.near in omega arith in
     let g = v.moved.count in
-    (rw q at v.moved, mapped_all {p = p + 1} (omega arith) (mapped_more (at - w) (omega arith) (omega arith) v.new))
+    mapped_all {p = n + 1 + 1} (omega arith) (mapped_more (at - w) (omega arith) (omega arith) v.new)

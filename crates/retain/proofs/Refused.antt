@@ -10,8 +10,8 @@ use lib.ListN.{take}
 use borrow.Author.Tests.{eqb-true, eqb-false, ne_eqb}
 use Rattle.lattice.specs.Pruning.{gone, Remap, no_entry, dropped, kept}
 use Rattle.refusal.specs.declared.Refusal.TheVariants.{BadRemap}
-use Rattle.retain.specs.declared.Remapped.{Remapped}
-use Rattle.retain.specs.declared.Remapped.TheVariants.{Fits, Refused}
+use Rattle.refusal.specs.declared.Refusal.{Refusal}
+use Rattle.std.specs.Prelude.{Result, Ok, Err}
 use Rattle.retain.specs.Remaps.{count, Wrong, Lowest, checked_from, checked}
 
 -- ---- an entry is wrong in the rest as it is in the whole; c survivors stand before the first, and c' before the second
@@ -38,16 +38,16 @@ no_wrong (kept {from} n r) zero w = w.not_next (sym (add-zero from))
 no_wrong (kept {from} {remap} n r) (suc j) w = no_wrong r j (wrong_sooner from from remap false (ne_eqb from gone n) j w)
 
 -- ---- what is found in the entries from number `entry` on
-data Found (c entry : ℕ) (rs : List ℕ) : Remapped → Type 0 where
-  fits : Remap c rs → Found c entry rs Fits
-  bad : (j : ℕ) → Lowest c rs j → Found c entry rs (Refused (BadRemap (entry + j)))
+data Found (c entry : ℕ) (rs : List ℕ) : Result Unit Refusal → Type 0 where
+  fits : Remap c rs → Found c entry rs (Ok tt)
+  bad : (j : ℕ) → Lowest c rs j → Found c entry rs (Err (BadRemap (entry + j)))
 
 -- the first is right
-step : {c entry r : ℕ} {rs : List ℕ} {o : Remapped} (b : Bool) → eqb r gone ≡ b → (Wrong c (r ∷ rs) 0 → ⊥) → (Remap (cond b c (suc c)) rs → Remap c (r ∷ rs)) → Found (cond b c (suc c)) (suc entry) rs o → Found c entry (r ∷ rs) o
+step : {c entry r : ℕ} {rs : List ℕ} {o : Result Unit Refusal} (b : Bool) → eqb r gone ≡ b → (Wrong c (r ∷ rs) 0 → ⊥) → (Remap (cond b c (suc c)) rs → Remap c (r ∷ rs)) → Found (cond b c (suc c)) (suc entry) rs o → Found c entry (r ∷ rs) o
 step b e right more (fits m) = fits (more m)
 step {c} {entry} {r} {rs} b e right more (bad j l) =
     let n : entry + suc j ≡ suc entry + j = omega arith in
-    subst (λ (k : ℕ). Found c entry (r ∷ rs) (Refused (BadRemap k))) n (bad (suc j) (record { wrong = wrong_later c r rs b e j l.wrong; lowest = before }))
+    subst (λ (k : ℕ). Found c entry (r ∷ rs) (Err (BadRemap k))) n (bad (suc j) (record { wrong = wrong_later c r rs b e j l.wrong; lowest = before }))
   where
     before : (k : ℕ) → k < suc j → Wrong c (r ∷ rs) k → ⊥
     before zero h w = right w
@@ -55,15 +55,15 @@ step {c} {entry} {r} {rs} b e right more (bad j l) =
 
 -- the first is not gone
 step_kept : (c entry r : ℕ) (rs : List ℕ) → Found (suc c) (suc entry) rs (checked_from (suc c) (suc entry) rs) → eqb r gone ≡ false → (b : Bool) → eqb r c ≡ b
-    → Found c entry (r ∷ rs) (cond b (checked_from (suc c) (suc entry) rs) (Refused (BadRemap entry)))
+    → Found c entry (r ∷ rs) (cond b (checked_from (suc c) (suc entry) rs) (Err (BadRemap entry)))
 step_kept c entry r rs rest e true q =
     let z : r ≡ c = eqb-true r c q in
     step false e (λ w. w.not_next (z ∙ sym (add-zero c))) (λ m. subst (λ (x : ℕ). Remap c (x ∷ rs)) (sym z) (kept (λ g. eqb-false r gone e (z ∙ g)) m)) rest
 step_kept c entry r rs rest e false q =
-    subst (λ (k : ℕ). Found c entry (r ∷ rs) (Refused (BadRemap k))) (add-zero entry)
+    subst (λ (k : ℕ). Found c entry (r ∷ rs) (Err (BadRemap k))) (add-zero entry)
     (bad 0 (record { wrong = record { inside = omega arith; not_gone = eqb-false r gone e; not_next = λ z. eqb-false r c q (z ∙ add-zero c) }; lowest = λ k h w. not-suc-le-zero h }))
 
-step_any : (c entry r : ℕ) (rs : List ℕ) → ((d : ℕ) → Found d (suc entry) rs (checked_from d (suc entry) rs)) → (b : Bool) → eqb r gone ≡ b → Found c entry (r ∷ rs) (cond b (checked_from c (suc entry) rs) (cond (eqb r c) (checked_from (suc c) (suc entry) rs) (Refused (BadRemap entry))))
+step_any : (c entry r : ℕ) (rs : List ℕ) → ((d : ℕ) → Found d (suc entry) rs (checked_from d (suc entry) rs)) → (b : Bool) → eqb r gone ≡ b → Found c entry (r ∷ rs) (cond b (checked_from c (suc entry) rs) (cond (eqb r c) (checked_from (suc c) (suc entry) rs) (Err (BadRemap entry))))
 step_any c entry r rs rest true e =
     let z : r ≡ gone = eqb-true r gone e in
     step true e (λ w. w.not_gone z) (λ m. subst (λ (x : ℕ). Remap c (x ∷ rs)) (sym z) (dropped m)) (rest c)
@@ -74,24 +74,24 @@ found [] c entry = fits no_entry
 found (r ∷ rs) c entry = step_any c entry r rs (λ d. found rs d (suc entry)) (eqb r gone) refl
 
 -- ---- exactly
-pub fits_is : (remap : List ℕ) → checked remap ≡ Fits → Remap 0 remap
+pub fits_is : (remap : List ℕ) → checked remap ≡ Ok tt → Remap 0 remap
 fits_is remap e = go (found remap 0 0) e
   where
-    go : {o : Remapped} → Found 0 0 remap o → o ≡ Fits → Remap 0 remap
+    go : {o : Result Unit Refusal} → Found 0 0 remap o → o ≡ Ok tt → Remap 0 remap
     go (fits m) e = m
     go (bad j l) e = let z : ◌≡◌ {A = ℕ} 0 1 = cc in absurd (omega arith)
 
-pub is_fits : (remap : List ℕ) → Remap 0 remap → checked remap ≡ Fits
+pub is_fits : (remap : List ℕ) → Remap 0 remap → checked remap ≡ Ok tt
 is_fits remap m = go (found remap 0 0)
   where
-    go : {o : Remapped} → Found 0 0 remap o → o ≡ Fits
+    go : {o : Result Unit Refusal} → Found 0 0 remap o → o ≡ Ok tt
     go (fits m) = refl
     go (bad j l) = absurd (no_wrong m j l.wrong)
 
-pub refused_is : (remap : List ℕ) (k : ℕ) → checked remap ≡ Refused (BadRemap k) → Lowest 0 remap k
+pub refused_is : (remap : List ℕ) (k : ℕ) → checked remap ≡ Err (BadRemap k) → Lowest 0 remap k
 refused_is remap k e = go (found remap 0 0) e
   where
-    go : {o : Remapped} → Found 0 0 remap o → o ≡ Refused (BadRemap k) → Lowest 0 remap k
+    go : {o : Result Unit Refusal} → Found 0 0 remap o → o ≡ Err (BadRemap k) → Lowest 0 remap k
     go (fits m) e = let z : ◌≡◌ {A = ℕ} 0 1 = cc in absurd (omega arith)
     go (bad j l) e = let z : 0 + j ≡ k = cc in subst (Lowest 0 remap) (sym (zero-add j) ∙ z) l
 
@@ -102,9 +102,9 @@ one_lowest {c} {rs} {j} {k} p q =
     let b : k < j → ⊥ = λ h. p.lowest k h q.wrong in
     omega arith
 
-pub is_refused : (remap : List ℕ) (k : ℕ) → Lowest 0 remap k → checked remap ≡ Refused (BadRemap k)
+pub is_refused : (remap : List ℕ) (k : ℕ) → Lowest 0 remap k → checked remap ≡ Err (BadRemap k)
 is_refused remap k q = go (found remap 0 0)
   where
-    go : {o : Remapped} → Found 0 0 remap o → o ≡ Refused (BadRemap k)
+    go : {o : Result Unit Refusal} → Found 0 0 remap o → o ≡ Err (BadRemap k)
     go (fits m) = absurd (no_wrong m k q.wrong)
-    go (bad j l) = ap (λ (n : ℕ). Refused (BadRemap n)) (zero-add j ∙ one_lowest l q)
+    go (bad j l) = ap (λ (n : ℕ). Err (BadRemap n)) (zero-add j ∙ one_lowest l q)

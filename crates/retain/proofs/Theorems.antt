@@ -15,8 +15,8 @@ use Rattle.lattice.proofs.Theorems.{in_step_once}
 use Rattle.cached.specs.Cached.{CacheFormed}
 use Rattle.cached.proofs.Theorems.{read_back, well_formed_holds}
 use Rattle.refusal.specs.declared.Refusal.TheVariants.{BadRemap}
-use Rattle.retain.specs.declared.Remapped.{Remapped}
-use Rattle.retain.specs.declared.Remapped.TheVariants.{Fits, Refused}
+use Rattle.refusal.specs.declared.Refusal.{Refusal}
+use Rattle.std.specs.Prelude.{Result, Ok, Err}
 use Rattle.retain.specs.Calls.{Slices, Holds, Takes, Leaves, Call, cleared_at, Calls, no_call, one_call, call_and_clear}
 use Rattle.retain.specs.Remaps.{Lowest, checked}
 use Rattle.retain.specs.Cleared.{cleared}
@@ -77,14 +77,14 @@ no_second {lattices = lattices} laid p q =
     (λ j. record { offsets = o j; starts = s j; ids = i j; spans = t j }, one_outcome a.edges b.edges)
 
 -- ---- the check of a remap: 13 "exactly when", at the lowest place
-pub remap_fits : (remap : List ℕ) → (checked remap ≡ Fits) ↔ Remap 0 remap
+pub remap_fits : (remap : List ℕ) → (checked remap ≡ Ok tt) ↔ Remap 0 remap
 remap_fits remap = (fits_is remap, is_fits remap)
 
-pub remap_refused : (remap : List ℕ) (entry : ℕ) → (checked remap ≡ Refused (BadRemap entry)) ↔ Lowest 0 remap entry
+pub remap_refused : (remap : List ℕ) (entry : ℕ) → (checked remap ≡ Err (BadRemap entry)) ↔ Lowest 0 remap entry
 remap_refused remap entry = (refused_is remap entry, is_refused remap entry)
 
 -- ---- no second outcome of the check or of clearing
-pub no_second_check : (remap : List ℕ) {a b : Remapped} → a ≡ checked remap → b ≡ checked remap → a ≡ b
+pub no_second_check : (remap : List ℕ) {a b : Result Unit Refusal} → a ≡ checked remap → b ≡ checked remap → a ≡ b
 no_second_check remap p q = one_outcome p q
 
 pub no_second_clear : (from : ℕ) (slots : List ℕ) {a b : List ℕ} → a ≡ cleared from slots → b ≡ cleared from slots → a ≡ b
@@ -110,5 +110,5 @@ pub example_pruned : Leaves (retained (0 ∷ gone ∷ 1 ∷ 2 ∷ []) example) b
 example_pruned = record { edges = refl; offsets_are = refl; starts_are = refl; ids_are = refl; spans_are = refl }
 
 -- the second 1 is neither `u32::MAX` nor 2, the count of survivors before it
-pub example_refused : checked (0 ∷ gone ∷ 1 ∷ 1 ∷ 7 ∷ []) ≡ Refused (BadRemap 3)
+pub example_refused : checked (0 ∷ gone ∷ 1 ∷ 1 ∷ 7 ∷ []) ≡ Err (BadRemap 3)
 example_refused = refl

@@ -13,7 +13,7 @@
 // written over has been read. The bodies of the loops are functions of their own, from one edge to one span.
 #![tactic(auto)]
 
-ghost use Rattle.std.specs.Prelude.{◌≡◌, cond, List, map, ◌++◌, ◌+◌, ◌-◌, ◌≤◌, ◌<◌, length, get_or, set, take, drop};
+ghost use Rattle.std.specs.Prelude.{◌≡◌, List, map, ◌++◌, ◌+◌, ◌-◌, ◌≤◌, ◌<◌, length, get_or, set, take, drop};
 ghost use Rattle.lattice.specs.Lattice.{Edge};
 ghost use Rattle.lattice.specs.Pruning.{retained};
 ghost use Rattle.retain.specs.Moves.{stay, kept_to, rank, Spot, Run, Moved, End, Word, Span, Shifted};
@@ -23,42 +23,25 @@ ghost use Rattle.lattice.specs.Written.{Written};
 ghost use Rattle.retain.specs.Retain.{Cached, Laid};
 
 use refusal::Refusal;
+use std::hint::select_unpredictable;
 
 // `u32::MAX`: the piece is gone.
 const GONE: u32 = 0xffff_ffff;
 
-// What a remap is found to be.
-#[derive(Clone, Copy)]
-pub enum Remapped {
-    Fits,
-    Refused(Refusal),
-}
-
 // Checks a remap: refused with 13 at the lowest entry that is neither `u32::MAX` nor the count of survivors before it.
-pub fn check_remap(remap: &[u32]) -> Remapped
+pub fn check_remap(remap: &[u32]) -> Result<(), Refusal>
     ensures { result ≡ checked remap.now }
 {
-    let mut survivors: usize = 0;
-    let mut entry: usize = 0;
-    while entry < remap.len() {
-        let id = remap[entry];
-        if id != GONE {
-            if id as usize != survivors {
-                return Remapped::Refused(Refusal::BadRemap(entry as u64));
+    let mut survivors = 0;
+    for (entry, id) in remap.iter().enumerate() {
+        if *id != GONE {
+            if *id as usize != survivors {
+                return Err(Refusal::BadRemap(entry as u64));
             }
             survivors += 1;
         }
-        entry += 1;
     }
-    Remapped::Fits
-}
-
-// The one number, or else the other. It is a function of its own because what it is compiled to then is a choice of values
-// in the caller's code too, and no branch.
-fn either(first: bool, one: usize, other: usize) -> usize
-    ensures { result ≡ cond first one other }
-{
-    if first { one } else { other }
+    Ok(())
 }
 
 // Moves edge `edge` down to `write`, with its new id, if its piece is not gone. Answers the next free place. Which pieces are
@@ -71,12 +54,12 @@ fn keep_edge(starts: &mut [u32], ids: &mut [u32], remap: &[u32], write: usize, e
     let old = ids[edge] as usize;
     let id = remap[old];
     let gone = id == GONE;
-    let source = either(gone, write, edge);
+    let source = select_unpredictable(gone, write, edge);
     starts[write] = starts[source];
     let there = ids[write] as usize;
-    let kept = either(gone, there, id as usize);
+    let kept = select_unpredictable(gone, there, id as usize);
     ids[write] = kept as u32;
-    either(gone, write, write + 1)
+    select_unpredictable(gone, write, write + 1)
 }
 
 // Moves down the edges from `from` up to `to` whose pieces are not gone. Answers the next free place.
@@ -92,10 +75,8 @@ fn keep_edges(
     ensures { Moved starts.old ids.old remap.now write (kept_to remap.now ids.old from to) starts.new ids.new result }
 {
     let mut at = write;
-    let mut edge = from;
-    while edge < to {
+    for edge in from..to {
         at = keep_edge(starts, ids, remap, at, edge);
-        edge += 1;
     }
     at
 }
@@ -139,12 +120,10 @@ fn keep_word(
     ensures offsets_after { offsets.new ≡ map (rank remap.now ids.old base) offsets.old }
 {
     let mut write = home;
-    let mut position = 0;
-    while position <= n {
+    for position in 0..n + 1 {
         write = keep_end(offsets, starts, ids, remap, base, home, write, position);
-        position += 1;
     }
-    offsets[position] = (write - home) as u32;
+    offsets[n + 1] = (write - home) as u32;
     write
 }
 
@@ -204,10 +183,8 @@ pub fn retain_core(
     ensures { (lattices : List (List (List Edge))) → Laid words remap.now offsets.old starts.old ids.old spans.old lattices → Written (retained remap.now lattices) offsets.old starts.old ids.old spans.old offsets.new starts.new ids.new spans.new result }
 {
     let mut write = 0;
-    let mut word = 0;
-    while word < words {
+    for word in 0..words {
         write = keep_span(offsets, starts, ids, spans, remap, write, 4 * word);
-        word += 1;
     }
     write
 }
@@ -217,11 +194,7 @@ pub fn clear_from(slots: &mut [u32], from: usize)
     requires { from ≤ length slots.old }
     ensures { slots.new ≡ cleared from slots.old }
 {
-    let mut slot = from;
-    while slot < slots.len() {
-        slots[slot] = 0;
-        slot += 1;
-    }
+    slots[from..].fill(0);
 }
 
 // Zeros in the edges' slots past the last one used, of which there are `count`.

@@ -1,31 +1,18 @@
--- The part of a slice that was filled, and the cases of the answer. Assumes nothing.
+-- The part of a slice that was filled. Assumes nothing.
 use mathlib.Core.Path.{◌≡◌, refl, sym, ap, ◌∙◌, subst}
 use mathlib.Core.Bool.{Bool, true, false}
 use mathlib.Core.List.{List}
-use Prim.Native.Nat.{ℕ, min, ◌≤◌}
+use Prim.Native.Nat.{ℕ, min}
 use native.Mathlib.Omega.{arith}
 use lib.Dec.{leb}
 use lib.ListN.{length, take}
-use lib.Seq.{take_all, length-take-le}
+use lib.Seq.{take_all}
 use borrow.Author.Tests.{leb-true, leb-false}
 use Rattle.settings.specs.declared.Settings.{Settings}
 use Rattle.listing.specs.Start.{Lent}
-use Rattle.refusal.specs.declared.Refusal.TheVariants.{BadFrame}
-use Rattle.frames.specs.declared.sequence.Ended.{Ended}
-use Rattle.frames.specs.declared.sequence.Ended.TheVariants.{Whole, Broken}
-use Rattle.stored.specs.Stored.{Tables}
-use Rattle.make.specs.Make.{Results}
-use Rattle.make.specs.declared.Trained.{Trained}
-use Rattle.make.specs.declared.Trained.TheVariants.{Refused}
-use Rattle.room.specs.Room.{asked, Whether, Replies}
+use Rattle.room.specs.Room.{asked}
 
 module _ {A : Type 0} (n r : ℕ) (l : List A) (e : r ≡ min n (length l)) where
-  pub part_inside : r ≤ length l
-  part_inside = omega arith
-
-  pub part_long : r ≡ length (take r l)
-  part_long = sym (length-take-le r l part_inside)
-
   -- as many as there are, or as are asked for
   pub part : take r l ≡ take n l
   part = go (leb n (length l)) refl
@@ -43,12 +30,3 @@ lent_same P s {a} {a'} {b} {b'} {c} {c'} {d} {d'} {e} {e'} p q r t u x =
     (subst (λ (y : List ℕ). P (asked s a' b' y d e)) r
     (subst (λ (y : List ℕ). P (asked s a' y c d e)) q
     (subst (λ (y : List ℕ). P (asked s y b c d e)) p x))))
-
--- ---- the answer, by how the input ended and whether a word had no room
-module _ (e : Ended) (t : Tables) (y y' : Results) (r : Trained) where
-  pub reply_whole : e ≡ Whole → (b : Bool) → t.short ≡ b → Whether b t y y' r → Replies e t y y' r
-  reply_whole p b s w =
-      subst (λ (x : Ended). Replies x t y y' r) (sym p) (subst (λ (x : Bool). Whether x t y y' r) (sym s) w)
-
-  pub reply_broken : (line : ℕ) → e ≡ Broken line → r ≡ Refused (BadFrame line) → y' ≡ y → Replies e t y y' r
-  reply_broken line p q s = subst (λ (x : Ended). Replies x t y y' r) (sym p) (q, s)

@@ -1,17 +1,15 @@
 -- The program's room: document 01, "room for 256 words, 8,192 word bytes, 1,024 pieces, 4,096 nodes, 8,192 edges, 8,704 offsets".
 -- Definitions only.
-use Rattle.std.specs.Prelude.{◌≡◌, Bool, true, false, List, ℕ, ◌*◌, take, replicate}
+use Rattle.std.specs.Prelude.{◌≡◌, Bool, true, false, List, ℕ, ◌*◌, take, replicate, Result, Ok, Err}
 use Rattle.std.specs.Float.{binary64}
 use Rattle.std.specs.Float.Ieee.{of_bits}
 use Rattle.settings.specs.declared.Settings.{Settings}
-use Rattle.listing.specs.Start.{Lent, count_of}
+use Rattle.listing.specs.Start.{Lent, paired_of}
 use Rattle.stored.specs.Stored.{Tables}
 use Rattle.refusal.specs.declared.Refusal.TheVariants.{BadFrame, NoRoom}
-use Rattle.frames.specs.declared.sequence.Ended.{Ended}
-use Rattle.frames.specs.declared.sequence.Ended.TheVariants.{Whole, Broken}
+use Rattle.refusal.specs.declared.Refusal.{Refusal}
 use Rattle.make.specs.Make.{Results}
 use Rattle.make.specs.declared.Trained.{Trained}
-use Rattle.make.specs.declared.Trained.TheVariants.{Refused}
 use Rattle.training.specs.Train.{Work, Answers}
 
 -- the slices of training, all zeros: two numbers for the span of a word and of a piece, four for a word's place in the cache, three
@@ -40,14 +38,8 @@ rooms = record {
 
 -- what training is asked: a word has a span and a frequency
 abbrev pub asked : Settings → List ℕ → List ℕ → List ℕ → List ℕ → List ℕ → Lent
-asked settings texts specials text words frequencies = record {
-  settings = settings;
-  texts = texts;
-  specials = specials;
-  text = text;
-  words = take (2 * count_of words frequencies) words;
-  frequencies = take (count_of words frequencies) frequencies;
-}
+asked settings texts specials text words frequencies =
+    paired_of (record { settings = settings; texts = texts; specials = specials; text = text; words = words; frequencies = frequencies })
 
 -- what was stored, and no more: the part of each slice that was filled
 abbrev pub lent_by : Tables → Lent
@@ -58,11 +50,11 @@ lent_by t =
     (take t.words.run.count t.frequencies)
 
 -- ---- what is answered, of an input that is whole: NoRoom 5 where a word had no room, else training's answer
-abbrev pub Whether : Bool → Tables → Results → Results → Trained → Type 0
-Whether true t y y' r = (r ≡ Refused (NoRoom 5)) × (y' ≡ y)
+abbrev pub Whether : Bool → Tables → Results → Results → Result Trained Refusal → Type 0
+Whether true t y y' r = (r ≡ Err (NoRoom 5)) × (y' ≡ y)
 Whether false t y y' r = Answers (lent_by t) rooms y y' r
 
 -- and BadFrame at a broken line, before all else. "A refusal changes no result slice"
-abbrev pub Replies : Ended → Tables → Results → Results → Trained → Type 0
-Replies (Broken line) t y y' r = (r ≡ Refused (BadFrame line)) × (y' ≡ y)
-Replies Whole t y y' r = Whether t.short t y y' r
+abbrev pub Replies : Result (Unit {0}) ℕ → Tables → Results → Results → Result Trained Refusal → Type 0
+Replies (Err line) t y y' r = (r ≡ Err (BadFrame line)) × (y' ≡ y)
+Replies (Ok _) t y y' r = Whether t.short t y y' r

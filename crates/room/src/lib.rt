@@ -9,29 +9,23 @@ ghost use Rattle.std.specs.Prelude.{◌≡◌, ◌*◌, min};
 ghost use Rattle.training.specs.Train.{Answers};
 ghost use Rattle.stored.specs.Stored.{tables};
 ghost use Rattle.frames.specs.Sequence.{end_of};
-ghost use Rattle.room.specs.Room.{rooms, asked, lent_by, Replies};
+ghost use Rattle.listing.specs.Start.{lists_of, paired_of};
+ghost use Rattle.room.specs.Room.{rooms, lent_by, Replies};
 
-use frames::Ended;
 use lines::Input;
+use listing::Lent;
 use make::Trained;
 use refusal::Refusal;
-use settings::Settings;
-use slots::lesser;
 use stored::Stored;
 
-// Trains on words that are lent, with specials, and writes the tokens to slices that are lent.
+// Trains on what is lent, and writes the tokens to slices that are lent.
 fn train(
-    settings: Settings,
-    texts: &[u8],
-    specials: &[u32],
-    text: &[u8],
-    words: &[u32],
-    frequencies: &[u64],
+    lent: Lent,
     bytes: &mut [u8],
     tokens: &mut [u32],
     token_scores: &mut [f64],
-) -> Trained
-    ensures { Answers (asked settings texts.now specials.now text.now words.now frequencies.now) rooms (record { bytes = bytes.old; tokens = tokens.old; scores = token_scores.old }) (record { bytes = bytes.new; tokens = tokens.new; scores = token_scores.new }) result }
+) -> Result<Trained, Refusal>
+    ensures { Answers (paired_of (lists_of lent.entry)) rooms (record { bytes = bytes.old; tokens = tokens.old; scores = token_scores.old }) (record { bytes = bytes.new; tokens = tokens.new; scores = token_scores.new }) result }
 {
     let mut kept = [0u32; 512];
     let mut counts = [0u64; 256];
@@ -52,12 +46,12 @@ fn train(
     let mut ids = [0u32; 8192];
     let mut spans = [0u32; 1024];
     training::train(
-        settings,
-        texts,
-        specials,
-        text,
-        words,
-        frequencies,
+        lent.settings,
+        lent.texts,
+        lent.specials,
+        lent.text,
+        lent.words,
+        lent.frequencies,
         &mut kept,
         &mut counts,
         &mut table,
@@ -86,10 +80,7 @@ fn train(
 fn pairs(texts: usize, numbers: usize) -> usize
     ensures { result ≡ min (2 * texts) numbers }
 {
-    if numbers / 2 < texts {
-        return numbers;
-    }
-    2 * texts
+    texts.saturating_mul(2).min(numbers)
 }
 
 // Trains on what was stored in slices: training is lent the part of each that was filled.
@@ -103,26 +94,23 @@ fn learn(
     bytes: &mut [u8],
     tokens: &mut [u32],
     token_scores: &mut [f64],
-) -> Trained
+) -> Result<Trained, Refusal>
     ensures { Answers (lent_by (tables stored texts.now specials.now text.now words.now frequencies.now)) rooms (record { bytes = bytes.old; tokens = tokens.old; scores = token_scores.old }) (record { bytes = bytes.new; tokens = tokens.new; scores = token_scores.new }) result }
 {
-    let settings = stored.settings;
-    let a = lesser(stored.specials.bytes, texts.len());
+    let a = stored.specials.bytes.min(texts.len());
     let b = pairs(stored.specials.count, specials.len());
-    let c = lesser(stored.words.bytes, text.len());
+    let c = stored.words.bytes.min(text.len());
     let d = pairs(stored.words.count, words.len());
-    let e = lesser(stored.words.count, frequencies.len());
-    train(
-        settings,
-        &texts[..a],
-        &specials[..b],
-        &text[..c],
-        &words[..d],
-        &frequencies[..e],
-        bytes,
-        tokens,
-        token_scores,
-    )
+    let e = stored.words.count.min(frequencies.len());
+    let lent = Lent {
+        settings: stored.settings,
+        texts: &texts[..a],
+        specials: &specials[..b],
+        text: &text[..c],
+        words: &words[..d],
+        frequencies: &frequencies[..e],
+    };
+    train(lent, bytes, tokens, token_scores)
 }
 
 // What is answered to an input that was read to its end: "1 .. (program only)", then "5 the program's word room, checked after 1 and
@@ -137,28 +125,24 @@ pub fn answer(
     bytes: &mut [u8],
     tokens: &mut [u32],
     token_scores: &mut [f64],
-) -> Trained
+) -> Result<Trained, Refusal>
     ensures { Replies (end_of input.reading) (tables input.stored texts.now specials.now text.now words.now frequencies.now) (record { bytes = bytes.old; tokens = tokens.old; scores = token_scores.old }) (record { bytes = bytes.new; tokens = tokens.new; scores = token_scores.new }) result }
 {
-    let stored = input.stored;
-    let reading = input.reading;
-    match frames::finish(reading) {
-        Ended::Broken(line) => Trained::Refused(Refusal::BadFrame(line)),
-        Ended::Whole => {
-            if stored.short {
-                return Trained::Refused(Refusal::NoRoom(refusal::NO_ROOM_WORDS));
-            }
-            learn(
-                stored,
-                texts,
-                specials,
-                text,
-                words,
-                frequencies,
-                bytes,
-                tokens,
-                token_scores,
-            )
-        }
+    if let Err(line) = frames::finish(input.reading) {
+        return Err(Refusal::BadFrame(line));
     }
+    if input.stored.short {
+        return Err(Refusal::NoRoom(refusal::NO_ROOM_WORDS));
+    }
+    learn(
+        input.stored,
+        texts,
+        specials,
+        text,
+        words,
+        frequencies,
+        bytes,
+        tokens,
+        token_scores,
+    )
 }

@@ -17,51 +17,35 @@ use Rattle.model.proofs.Loop.{next_fewer, next_nodes, begun, again, finished}
 use Rattle.model.proofs.Theorems.{rounds_fewer}
 use Rattle.shrink.specs.declared.Shrunk.{Shrunk}
 use Rattle.shrink.specs.At.{Slices, At, Fixed, Room}
+use Rattle.shrink.specs.declared.Work.{Work}
+use Rattle.shrink.specs.Lent.{with_scores, SameWork}
+use Rattle.shrink.proofs.Lent.{same_work, same_work_on}
 use Rattle.shrink.specs.Steps.{Shrinking}
 use Rattle.turn.specs.Steps.{Improving, Improves, Turns}
 use Rattle.rounds.specs.Steps.{Settled, Pruning, Prunes, Rounding, Rounds}
 use Rattle.turn.proofs.Improved.{at_count, improving, improved_at, improved_last}
 
--- the slots of all slices
-pub record Slots : Type 0 where
-  pub pieces : ℕ
-  pub scores : ℕ
-  pub expected : ℕ
-  pub bits : ℕ
-  pub ranked : ℕ
-  pub remap : ℕ
-  pub offsets : ℕ
-  pub starts : ℕ
-  pub ids : ℕ
-  pub spans : ℕ
-  pub keys : ℕ
-  pub ends : ℕ
+abbrev RoomIn : Model → ℕ → Work → Type 0
+RoomIn m count l = Room m.pieces count (length l.expected.now) (length l.bits.now) (length l.ranked.now) (length l.remap.now) (length l.keys.now) (length l.ends.now)
 
--- no slice becomes longer or shorter
-pub record Same (l' l : Slots) : Type 0 where
-  pub pieces_same : l'.pieces ≡ l.pieces
-  pub scores_same : l'.scores ≡ l.scores
-  pub expected_same : l'.expected ≡ l.expected
-  pub bits_same : l'.bits ≡ l.bits
-  pub ranked_same : l'.ranked ≡ l.ranked
-  pub remap_same : l'.remap ≡ l.remap
-  pub offsets_same : l'.offsets ≡ l.offsets
-  pub starts_same : l'.starts ≡ l.starts
-  pub ids_same : l'.ids ≡ l.ids
-  pub spans_same : l'.spans ≡ l.spans
-  pub keys_same : l'.keys ≡ l.keys
-  pub ends_same : l'.ends ≡ l.ends
+-- the same slots have the same room
+places_by : {l l' : Work} → SameWork l l' → smaller (smaller (length l'.keys.now) (length l'.ends.now)) 4294967295 / 2 ≡ smaller (smaller (length l.keys.now) (length l.ends.now)) 4294967295 / 2
+places_by {l} {l'} same =
+    ap (λ (n : ℕ). smaller (smaller n (length l'.ends.now)) 4294967295 / 2) same.keys_long
+    ∙ ap (λ (n : ℕ). smaller (smaller (length l.keys.now) n) 4294967295 / 2) same.ends_long
 
-same_self : (l : Slots) → Same l l
-same_self l = record { pieces_same = refl; scores_same = refl; expected_same = refl; bits_same = refl; ranked_same = refl; remap_same = refl; offsets_same = refl; starts_same = refl; ids_same = refl; spans_same = refl; keys_same = refl; ends_same = refl }
+room_by : {l l' : Work} (m : Model) (count : ℕ) → SameWork l l' → RoomIn m count l → RoomIn m count l'
+room_by m count same room =
+    record {
+      in_used = let a = room.in_used in let b = same.expected_long in omega arith;
+      in_bits = let a = room.in_bits in let b = same.bits_long in omega arith;
+      in_ranked = let a = room.in_ranked in let b = same.ranked_long in omega arith;
+      in_remap = let a = room.in_remap in let b = same.remap_long in omega arith;
+      few = room.few;
+      trie_room = let a = room.trie_room in let b = places_by same in omega arith;
+    }
 
-same_on : {l'' l' l : Slots} → Same l'' l' → Same l' l → Same l'' l
-same_on a b = record { pieces_same = a.pieces_same ∙ b.pieces_same; scores_same = a.scores_same ∙ b.scores_same; expected_same = a.expected_same ∙ b.expected_same; bits_same = a.bits_same ∙ b.bits_same; ranked_same = a.ranked_same ∙ b.ranked_same; remap_same = a.remap_same ∙ b.remap_same; offsets_same = a.offsets_same ∙ b.offsets_same; starts_same = a.starts_same ∙ b.starts_same; ids_same = a.ids_same ∙ b.ids_same; spans_same = a.spans_same ∙ b.spans_same; keys_same = a.keys_same ∙ b.keys_same; ends_same = a.ends_same ∙ b.ends_same }
-
-abbrev RoomIn : Model → ℕ → Slots → Type 0
-RoomIn m count l = Room m.pieces count l.expected l.bits l.ranked l.remap l.keys l.ends
-
-module _ (setting : ℕ) (text : List ℕ) (words : ℕ) (frequencies : List ℕ) (iterations : ℕ) (factor : Float) (target required count edges : ℕ) (s : Slices) (l : Slots) where
+module _ (setting : ℕ) (text : List ℕ) (words : ℕ) (frequencies : List ℕ) (iterations : ℕ) (factor : Float) (target required count edges : ℕ) (s : Slices) (l : Work) where
   -- a model that the rounds reach from m, which the slices hold
   pub record Reached (t : Task) (begin : Model) (room : ℕ) (s' : Slices) (so : Shrunk) : Type 0 where
     pub m : Model
@@ -71,8 +55,8 @@ module _ (setting : ℕ) (text : List ℕ) (words : ℕ) (frequencies : List ℕ
     pub narrower : nodes m.pieces ≤ room
 
   -- whatever the task and the model are
-  pub record Head (s' : Slices) (so : Shrunk) (keep : ℕ) (l' : Slots) : Type 0 where
-    pub same : Same l' l
+  pub record Head (s' : Slices) (so : Shrunk) (keep : ℕ) (l' : Work) : Type 0 where
+    pub same : SameWork l l'
     pub keep_is : keep ≡ keep_of so.pieces factor target
     pub reached : (t : Task) (begin m : Model) → Fixed t setting words frequencies → Settled t iterations factor target required → Going t begin m → At t text m s count edges
         → Reached t begin (nodes m.pieces) s' so
@@ -80,7 +64,7 @@ module _ (setting : ℕ) (text : List ℕ) (words : ℕ) (frequencies : List ℕ
   pub head_first : (keep : ℕ) → keep ≡ keep_of count factor target → Head s (record { pieces = count; edges = edges }) keep l
   head_first keep e =
       record {
-        same = same_self l;
+        same = same_work l;
         keep_is = e;
         reached = λ t begin m fixed settled going at. record { m = m; going = going; at = at; fewer = le_refl count; narrower = le_refl (nodes m.pieces) };
       }
@@ -88,30 +72,26 @@ module _ (setting : ℕ) (text : List ℕ) (words : ℕ) (frequencies : List ℕ
   keep_of_lem : (t : Task) → Settled t iterations factor target required → (n : ℕ) → keep_of n factor target ≡ keep_next t n
   keep_of_lem t settled n = ap (λ (f : Float). keep_of n f target) (sym settled.factor_is) ∙ ap (keep_of n t.factor) (sym settled.target_is)
 
-  module _ (w : Pruning setting text words frequencies iterations factor target required count edges s l.expected l.bits l.ranked l.remap l.keys l.ends)
-      (s' : Slices) (so : Shrunk) (keep : ℕ) (l' : Slots) (head : Head s' so keep l') where
+  module _ (w : Pruning setting text words frequencies iterations factor target required count edges s (length l.expected.now) (length l.bits.now) (length l.ranked.now) (length l.remap.now) (length l.keys.now) (length l.ends.now))
+      (s' : Slices) (so : Shrunk) (keep : ℕ) (l' : Work) (head : Head s' so keep l') where
     reached_own : Reached w.t w.begin (nodes w.m.pieces) s' so
     reached_own = head.reached w.t w.begin w.m w.fixed w.settled w.going w.at
-
-    places_same : smaller (smaller l'.keys l'.ends) 4294967295 / 2 ≡ smaller (smaller l.keys l.ends) 4294967295 / 2
-    places_same =
-        ap (λ (n : ℕ). smaller (smaller n l'.ends) 4294967295 / 2) head.same.keys_same
-        ∙ ap (λ (n : ℕ). smaller (smaller l.keys n) 4294967295 / 2) head.same.ends_same
 
     room_now : RoomIn reached_own.m so.pieces l'
     room_now =
         let a = reached_own.fewer in
         let b = reached_own.narrower in
+        let r = room_by w.m count head.same w.room in
         record {
-          in_used = let c = w.room.in_used in let d = head.same.expected_same in omega arith;
-          in_bits = let c = w.room.in_bits in let d = head.same.bits_same in omega arith;
-          in_ranked = let c = w.room.in_ranked in let d = head.same.ranked_same in omega arith;
-          in_remap = let c = w.room.in_remap in let d = head.same.remap_same in omega arith;
-          few = let c = w.room.few in omega arith;
-          trie_room = let c = w.room.trie_room in let d = places_same in omega arith;
+          in_used = let c = r.in_used in omega arith;
+          in_bits = let c = r.in_bits in omega arith;
+          in_ranked = let c = r.in_ranked in omega arith;
+          in_remap = let c = r.in_remap in omega arith;
+          few = let c = r.few in omega arith;
+          trie_room = let c = r.trie_room in omega arith;
         }
 
-    pub shrinking : Shrinking setting text words frequencies required so.pieces so.edges s' l'.expected l'.bits l'.ranked l'.remap l'.keys l'.ends
+    pub shrinking : Shrinking setting text words frequencies required so.pieces so.edges s' (length l'.expected.now) (length l'.bits.now) (length l'.ranked.now) (length l'.remap.now) (length l'.keys.now) (length l'.ends.now)
     shrinking =
         record {
           t = w.t;
@@ -153,10 +133,10 @@ module _ (setting : ℕ) (text : List ℕ) (words : ℕ) (frequencies : List ℕ
             narrower = let e = next_nodes t x.m in let f = x.narrower in omega arith;
           }
 
-      pub head_next : (keep' : ℕ) (l'' : Slots) → keep' ≡ keep_of r.pieces factor target → Same l'' l' → Head s'' r keep' l''
+      pub head_next : (keep' : ℕ) (l'' : Work) → keep' ≡ keep_of r.pieces factor target → SameWork l' l'' → Head s'' r keep' l''
       head_next keep' l'' e same =
           record {
-            same = same_on same head.same;
+            same = same_work_on head.same same;
             keep_is = e;
             reached = λ t begin m fixed settled going at. one_on t begin (nodes m.pieces) fixed settled (head.reached t begin m fixed settled going at);
           }
@@ -187,20 +167,19 @@ module _ (setting : ℕ) (text : List ℕ) (words : ℕ) (frequencies : List ℕ
         x.at
 
   -- ---- EM, the loop, and EM once more
-  module _ (w : Rounding setting text words frequencies iterations factor target required count edges s l.expected l.bits l.ranked l.remap l.keys l.ends) where
-    pub improving_first : Improving words frequencies count edges s.scores l.expected s.offsets s.starts s.ids s.spans
-    improving_first = improving w.fixed w.at l.expected w.room.in_used
+  module _ (w : Rounding setting text words frequencies iterations factor target required count edges s (length l.expected.now) (length l.bits.now) (length l.ranked.now) (length l.remap.now) (length l.keys.now) (length l.ends.now)) where
+    pub improving_first : Improving words frequencies count edges s.scores (length l.expected.now) s.offsets s.starts s.ids s.spans
+    improving_first = improving w.fixed w.at (length l.expected.now) w.room.in_used
 
     module _ (scores' : List Float) (i : Improves words frequencies iterations count edges s.scores s.offsets s.starts s.ids s.spans scores') where
       abbrev s₁ : Slices
-      s₁ = record { pieces = s.pieces; scores = scores'; offsets = s.offsets; starts = s.starts; ids = s.ids; spans = s.spans }
+      s₁ = with_scores s scores'
 
       improved_room : RoomIn (improved w.t w.begin) count l
-      improved_room = subst (λ (p : List (List ℕ)). Room p count l.expected l.bits l.ranked l.remap l.keys l.ends) (sym (improved_pieces w.t w.begin)) w.room
+      improved_room = subst (λ (p : List (List ℕ)). Room p count (length l.expected.now) (length l.bits.now) (length l.ranked.now) (length l.remap.now) (length l.keys.now) (length l.ends.now)) (sym (improved_pieces w.t w.begin)) w.room
 
-      -- EM leaves its own work slice as long as it was
-      pub pruning : (expected : ℕ) → expected ≡ l.expected → Pruning setting text words frequencies iterations factor target required count edges s₁ expected l.bits l.ranked l.remap l.keys l.ends
-      pruning expected e =
+      pub pruning : (l₁ : Work) → SameWork l l₁ → Pruning setting text words frequencies iterations factor target required count edges s₁ (length l₁.expected.now) (length l₁.bits.now) (length l₁.ranked.now) (length l₁.remap.now) (length l₁.keys.now) (length l₁.ends.now)
+      pruning l₁ same =
           record {
             t = w.t;
             begin = w.begin;
@@ -209,7 +188,7 @@ module _ (setting : ℕ) (text : List ℕ) (words : ℕ) (frequencies : List ℕ
             settled = w.settled;
             going = begun w.t w.begin w.sound;
             at = improved_at w.fixed w.at iterations i w.settled.iterations_are;
-            room = subst (λ (n : ℕ). Room (improved w.t w.begin).pieces count n l.bits l.ranked l.remap l.keys l.ends) (sym e) improved_room;
+            room = room_by (improved w.t w.begin) count same improved_room;
           }
 
       module _ (s₂ : Slices) (so : Shrunk) (p : Prunes setting text words frequencies iterations factor target required count edges s₁ s₂ so) where
@@ -218,7 +197,7 @@ module _ (setting : ℕ) (text : List ℕ) (words : ℕ) (frequencies : List ℕ
         rounded t begin fixed settled sound at =
             p t begin (improved t begin) fixed settled (begun t begin sound) (improved_at fixed at iterations i settled.iterations_are)
 
-        pub improving_last : (expected : ℕ) → expected ≡ l.expected → Improving words frequencies so.pieces so.edges s₂.scores expected s₂.offsets s₂.starts s₂.ids s₂.spans
+        pub improving_last : (expected : ℕ) → expected ≡ (length l.expected.now) → Improving words frequencies so.pieces so.edges s₂.scores expected s₂.offsets s₂.starts s₂.ids s₂.spans
         improving_last expected e =
             let after = rounded w.t w.begin w.fixed w.settled w.sound w.at in
             let a = w.room.in_used in

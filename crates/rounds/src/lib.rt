@@ -5,10 +5,11 @@
 #![tactic(auto)]
 
 ghost use Rattle.std.specs.Prelude.{length};
+ghost use Rattle.shrink.specs.Lent.{slices_of, SameState, SameWork};
 ghost use Rattle.rounds.specs.Steps.{Pruning, Prunes, Rounding, Rounds};
 
-use shrink::Shrunk;
-use turn::{improve, turn};
+use shrink::{Shrunk, State, Work};
+use turn::{improve_state, turn};
 
 // Rounds until the count kept is not below the piece count.
 fn prune_on(
@@ -22,21 +23,13 @@ fn prune_on(
     required: usize,
     count: usize,
     edges: usize,
-    pieces: &mut [u32],
-    scores: &mut [f64],
-    expected: &mut [f64],
-    bits: &mut [u64],
-    ranked: &mut [u32],
-    remap: &mut [u32],
-    offsets: &mut [u32],
-    starts: &mut [u32],
-    ids: &mut [u32],
-    spans: &mut [u32],
-    keys: &mut [u64],
-    ends: &mut [u32],
+    state: &mut State,
+    work: &mut Work,
 ) -> Shrunk
-    requires { Pruning setting text.now words frequencies.now iterations factor target required count edges (record { pieces = pieces.now; scores = scores.old; offsets = offsets.old; starts = starts.old; ids = ids.old; spans = spans.old }) (length expected.old) (length bits.old) (length ranked.old) (length remap.old) (length keys.old) (length ends.old) }
-    ensures { Prunes setting text.now words frequencies.now iterations factor target required count edges (record { pieces = pieces.old; scores = scores.old; offsets = offsets.old; starts = starts.old; ids = ids.old; spans = spans.old }) (record { pieces = pieces.new; scores = scores.new; offsets = offsets.new; starts = starts.new; ids = ids.new; spans = spans.new }) result }
+    requires { Pruning setting text.now words frequencies.now iterations factor target required count edges (slices_of state.old) (length work.old.expected.now) (length work.old.bits.now) (length work.old.ranked.now) (length work.old.remap.now) (length work.old.keys.now) (length work.old.ends.now) }
+    ensures prunes { Prunes setting text.now words frequencies.now iterations factor target required count edges (slices_of state.old) (slices_of state.new) result }
+    ensures same_state { SameState state.old state.new }
+    ensures same_work { SameWork work.old work.new }
 {
     let mut so = Shrunk {
         pieces: count,
@@ -54,18 +47,8 @@ fn prune_on(
             keep,
             so.pieces,
             so.edges,
-            pieces,
-            scores,
-            expected,
-            bits,
-            ranked,
-            remap,
-            offsets,
-            starts,
-            ids,
-            spans,
-            keys,
-            ends,
+            state,
+            work,
         );
         keep = keep::keep(so.pieces, factor, target);
     }
@@ -84,35 +67,15 @@ pub fn rounds(
     required: usize,
     count: usize,
     edges: usize,
-    pieces: &mut [u32],
-    scores: &mut [f64],
-    expected: &mut [f64],
-    bits: &mut [u64],
-    ranked: &mut [u32],
-    remap: &mut [u32],
-    offsets: &mut [u32],
-    starts: &mut [u32],
-    ids: &mut [u32],
-    spans: &mut [u32],
-    keys: &mut [u64],
-    ends: &mut [u32],
+    state: &mut State,
+    work: &mut Work,
 ) -> usize
-    requires { Rounding setting text.now words frequencies.now iterations factor target required count edges (record { pieces = pieces.now; scores = scores.old; offsets = offsets.old; starts = starts.old; ids = ids.old; spans = spans.old }) (length expected.old) (length bits.old) (length ranked.old) (length remap.old) (length keys.old) (length ends.old) }
-    ensures { Rounds setting text.now words frequencies.now iterations factor target required count edges (record { pieces = pieces.old; scores = scores.old; offsets = offsets.old; starts = starts.old; ids = ids.old; spans = spans.old }) pieces.new scores.new result }
+    requires { Rounding setting text.now words frequencies.now iterations factor target required count edges (slices_of state.old) (length work.old.expected.now) (length work.old.bits.now) (length work.old.ranked.now) (length work.old.remap.now) (length work.old.keys.now) (length work.old.ends.now) }
+    ensures rounds { Rounds setting text.now words frequencies.now iterations factor target required count edges (slices_of state.old) state.new.pieces.now state.new.scores.now result }
+    ensures same_state { SameState state.old state.new }
+    ensures same_work { SameWork work.old work.new }
 {
-    improve(
-        words,
-        frequencies,
-        iterations,
-        count,
-        edges,
-        scores,
-        expected,
-        offsets,
-        starts,
-        ids,
-        spans,
-    );
+    improve_state(words, frequencies, iterations, count, edges, state, work);
     let so = prune_on(
         setting,
         text,
@@ -124,31 +87,9 @@ pub fn rounds(
         required,
         count,
         edges,
-        pieces,
-        scores,
-        expected,
-        bits,
-        ranked,
-        remap,
-        offsets,
-        starts,
-        ids,
-        spans,
-        keys,
-        ends,
+        state,
+        work,
     );
-    improve(
-        words,
-        frequencies,
-        1,
-        so.pieces,
-        so.edges,
-        scores,
-        expected,
-        offsets,
-        starts,
-        ids,
-        spans,
-    );
+    improve_state(words, frequencies, 1, so.pieces, so.edges, state, work);
     so.pieces
 }

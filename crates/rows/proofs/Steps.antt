@@ -1,26 +1,23 @@
 -- How far the loops of `rows` have come, and each way out of them. Assumes nothing.
 use mathlib.Core.Path.{◌≡◌, refl, sym, ap, ◌∙◌, subst}
-use mathlib.Core.Bool.{cond}
 use mathlib.Core.List.{List}
 use Prim.Native.Nat.{ℕ, ◌+◌, ◌*◌, ◌-◌, ◌≤◌, ◌<◌}
 use native.Mathlib.Decide.{dec_lt}
 use native.Mathlib.Numerals.{add-one}
 use native.Mathlib.Omega.{arith}
-use lib.Dec.{ltb}
 use lib.ListN.{length, get_or, set, drop, length-set, length-drop}
 use lib.Seq.{get_or-drop, get_or-set_same, get_or-set_other}
-use borrow.Author.Tests.{ltb-true, ltb-false}
-use Rattle.laws.proofs.Choices.{cond_cases}
 use Rattle.places.specs.Walk.{key_of}
 use Rattle.places.specs.Map.{found_in}
-use Rattle.places.specs.declared.Found.TheVariants.{Node, Nothing}
+use Rattle.std.specs.Prelude.{Some, None, min}
 use Rattle.places.proofs.Theorems.{key_some}
 use Rattle.places.proofs.Answers.{found_range}
 use Rattle.trie.specs.Prefixes.{back}
 use Rattle.trie.specs.Trie.{node_at, Trie}
 use Rattle.trie.proofs.Nodes.{child_of}
 use Rattle.trie.proofs.Walked.{Stepped, step_on, step_off}
-use Rattle.rows.specs.Walks.{Walking, spelt, Told, Walks, Zeroed}
+use Rattle.rows.specs.Walks.{Walking, spelt, Told, Walks}
+use Rattle.rows.proofs.Zeros.{Zeroed}
 
 -- how many steps a walk may take
 pub record Most (setting left most : ℕ) : Type 0 where
@@ -28,12 +25,8 @@ pub record Most (setting left most : ℕ) : Type 0 where
   pub by_left : most ≤ left
   pub all : (step : ℕ) → step < setting → step < left → step < most
 
-pub most_of : (setting left : ℕ) {most : ℕ} → most ≡ cond (ltb left setting) left setting → Most setting left most
-most_of setting left {most} e =
-    subst (Most setting left) (sym e)
-    (cond_cases (Most setting left) (ltb left setting) left setting
-    (λ t. let l = ltb-true left setting t in record { by_setting = omega arith; by_left = omega arith; all = λ k a b. b })
-    (λ t. let l = ltb-false left setting t in record { by_setting = omega arith; by_left = omega arith; all = λ k a b. a }))
+pub most_of : (setting left : ℕ) {most : ℕ} → most ≡ min setting left → Most setting left most
+most_of setting left e = record { by_setting = omega arith; by_left = omega arith; all = λ k a b. omega arith }
 
 module _ (keys ends chars : List ℕ) (setting : ℕ) where
   -- what holds of every trie that the slices may be
@@ -53,7 +46,7 @@ module _ (keys ends chars : List ℕ) (setting : ℕ) where
     pub near : step ≤ most
     pub long : length grid ≡ length grid₀
     pub wide : 32 * length chars ≤ length grid
-    pub leads : node_at keys (back (drop start chars) step) ≡ Node node
+    pub leads : node_at keys (back (drop start chars) step) ≡ Some node
     pub told : Any (λ pieces. (s : ℕ) → s < start → Told chars pieces setting grid s)
     pub here : Any (λ pieces. (j : ℕ) → j < step → get_or grid (32 * start + j) 0 ≡ spelt chars pieces start j)
 
@@ -68,7 +61,7 @@ module _ (keys ends chars : List ℕ) (setting : ℕ) where
   outer_none grid = record { near = omega arith; long = refl; told = λ q p t s l. none_below s l }
 
   module _ {grid₀ : List ℕ} (x : Walking keys ends chars setting grid₀) where
-    pub inner_none : {grid : List ℕ} {start most : ℕ} → Outer grid₀ grid start → start < length chars → most ≡ cond (ltb (length chars - start) setting) (length chars - start) setting → Inner grid start most grid 0 0
+    pub inner_none : {grid : List ℕ} {start most : ℕ} → Outer grid₀ grid start → start < length chars → most ≡ min setting (length chars - start) → Inner grid start most grid 0 0
     inner_none {grid} {start} o l e =
         let n = o.long in
         let w = x.wide in
@@ -108,17 +101,17 @@ module _ (keys ends chars : List ℕ) (setting : ℕ) where
         same_char : get_or (drop start chars) step 0 ≡ get_or chars (start + step) 0
         same_char = get_or-drop start chars step 0
 
-        pub at_hole : found_in keys (key_of node (get_or chars (start + step) 0)) ≡ Nothing → Off start most step
+        pub at_hole : found_in keys (key_of node (get_or chars (start + step) 0)) ≡ None → Off start most step
         at_hole e q p t j a b =
             let n = length-drop start chars in
             let m = i.most_is.by_left in
             step_off t (drop start chars) small i.leads inside (ap (λ (c : ℕ). found_in keys (key_of node c)) same_char ∙ e) j a (omega arith)
 
-        module _ {m : ℕ} (e : found_in keys (key_of node (get_or chars (start + step) 0)) ≡ Node m) where
+        module _ {m : ℕ} (e : found_in keys (key_of node (get_or chars (start + step) 0)) ≡ Some m) where
           pub node_range : (0 < m) × (m ≤ length keys)
           node_range = found_range keys (key_of node (get_or chars (start + step) 0)) (key_some node (get_or chars (start + step) 0)) e
 
-          found : found_in keys (key_of node (get_or (drop start chars) step 0)) ≡ Node m
+          found : found_in keys (key_of node (get_or (drop start chars) step 0)) ≡ Some m
           found = ap (λ (c : ℕ). found_in keys (key_of node c)) same_char ∙ e
 
           next : {prefixes pieces : List (List ℕ)} → Trie keys ends prefixes pieces → Stepped keys ends pieces (drop start chars) step m

@@ -1,12 +1,11 @@
 -- A word of a list: its characters, and then its walks. Assumes nothing.
 use mathlib.Core.Path.{◌≡◌, sym, ap, ap₂, ◌∙◌, subst}
 use mathlib.Core.List.{List}
-use Prim.Native.Nat.{ℕ, ◌+◌, ◌-◌, ◌≤◌}
+use Prim.Native.Nat.{ℕ, ◌≤◌}
 use native.Mathlib.Omega.{arith}
 use lib.ListN.{length, get_or, take, drop, length-take}
 use lib.Seq.{take-append_seam}
 use Rattle.utf8.specs.Encode.{Spells}
-use Rattle.utf8.specs.Decode.{Right}
 use Rattle.utf8.specs.Chars.{chars_of}
 use Rattle.utf8.proofs.Reading.{scalars_at}
 use Rattle.spans.specs.Spans.{from, bytes, octets, chars_at}
@@ -19,32 +18,28 @@ use Rattle.rows.specs.Grid.{lattice_in}
 use Rattle.rows.specs.Word.{Room, Walked}
 use Rattle.rows.proofs.Lattices.{told_lattice}
 
-module _ {keys ends classes : List ℕ} {setting : ℕ} {chars grid : List ℕ} (r : Room keys ends setting chars grid) (table : Right classes) (text words : List ℕ) (k low high : ℕ) (l : low ≡ from words k) (h : high ≡ low + bytes words k) (g : Good text words 255 k) where
-  part : take (high - low) (drop low text) ≡ octets text words k
-  part = let e : high - low ≡ bytes words k = omega arith in ap₂ (λ (n m : ℕ). take n (drop m text)) e l
+module _ {keys ends : List ℕ} {setting : ℕ} {chars grid : List ℕ} (r : Room keys ends setting chars grid) (text words : List ℕ) (k : ℕ) {word : List ℕ} (part : word ≡ octets text words k) (g : Good text words 255 k) where
+  word_long : length word ≤ 255
+  word_long = let e = ap length part in let a = length-take (bytes words k) (drop (from words k) text) in let s = g.short in omega arith
 
-  pub word_in : high ≤ length text
-  word_in = let i = g.inside in omega arith
-
-  pub word_decoding : Decoding classes (take (high - low) (drop low text)) chars
+  pub word_decoding : Decoding word chars
   word_decoding =
       record {
-        right = table;
         utf8 = subst (λ (s : List ℕ). Spells s (chars_of s)) (sym part) g.utf8;
-        room = let a = length-take (high - low) (drop low text) in let s = g.short in let c = r.room in omega arith;
+        room = let a = word_long in let c = r.room in omega arith;
       }
 
-  module _ {chars' : List ℕ} {n : ℕ} (d : Decodes (take (high - low) (drop low text)) chars chars' n) where
+  module _ {chars' : List ℕ} {n : ℕ} (d : Decodes word chars chars' n) where
     pub word_count : n ≡ length (chars_at text words k)
     word_count = d.count ∙ ap (λ (s : List ℕ). length (chars_of s)) part
 
     pub word_short : n ≤ 255
-    word_short = let f = d.few in let a = length-take (high - low) (drop low text) in let s = g.short in omega arith
+    word_short = let f = d.few in let a = word_long in omega arith
 
     pub word_chars : take n chars' ≡ chars_at text words k
     word_chars =
         ap₂ (λ (m : ℕ) (x : List ℕ). take m x) d.count d.chars_are
-        ∙ take-append_seam (chars_of (take (high - low) (drop low text))) (drop (length (chars_of (take (high - low) (drop low text)))) chars)
+        ∙ take-append_seam (chars_of word) (drop (length (chars_of word)) chars)
         ∙ ap chars_of part
 
     pub word_walking : Walking keys ends (take n chars') setting grid

@@ -1,27 +1,24 @@
--- Zeros, one place more at each turn. Assumes nothing.
-use mathlib.Core.Path.{◌≡◌, refl, ap, ◌∙◌}
-use mathlib.Core.List.{List}
-use Prim.Native.Nat.{ℕ, ◌+◌, ◌≤◌, ◌<◌}
-use native.Mathlib.Omega.{arith}
-use native.Mathlib.Decide.{dec_lt}
-use lib.ListN.{length, get_or, set, length-set}
-use lib.Seq.{get_or-set_same, get_or-set_other}
-use Rattle.rows.specs.Walks.{Zeroed}
+-- Zeros from one place of a list up to another. Assumes nothing.
+use Rattle.std.proofs.Common.{◌≡◌, ℕ, ◌-◌, ◌≤◌, ◌<◌, List, length, get_or, replicate, rules, ap, ◌∙◌}
+use Rattle.std.proofs.lemmas.List.{length-replicate, places}
+use borrow.Rule.Slice.PartMut.{put_mid, mid_of}
 
-none_between : {A : Type 0} (a k : ℕ) → a ≤ k → k < a → A
-none_between a k p q = absurd (omega arith)
+-- zeros from one place up to another, and all else as it was
+pub record Zeroed (grid : List ℕ) (from to : ℕ) (grid' : List ℕ) : Type 0 where
+  pub long : length grid' ≡ length grid
+  pub before : (k : ℕ) → k < from → get_or grid' k 0 ≡ get_or grid k 0
+  pub zeros : (k : ℕ) → from ≤ k → k < to → get_or grid' k 0 ≡ 0
+  pub behind : (k : ℕ) → to ≤ k → get_or grid' k 0 ≡ get_or grid k 0
 
-pub zeroed_none : (l : List ℕ) (from : ℕ) → Zeroed l from from l
-zeroed_none l from = record { long = refl; before = λ k h. refl; zeros = λ k g h. none_between from k g h; behind = λ k h. refl }
-
-pub zeroed_more : {l l' : List ℕ} {from : ℕ} (to : ℕ) → from ≤ to → to < length l → Zeroed l from to l' → Zeroed l from (to + 1) (set l' to 0)
-zeroed_more {l} {l'} {from} to g h z =
+-- what a part that was filled with zeros leaves
+pub zeroed : (grid part : List ℕ) (from to : ℕ) → from ≤ to → to ≤ length grid → part ≡ replicate (length (mid_of from (to - from) grid)) 0 → Zeroed grid from to (put_mid from (to - from) grid part)
+zeroed grid part from to h l e =
+    let n : length (mid_of from (to - from) grid) ≡ to - from = search (rules, places) in
+    let f : part ≡ replicate (to - from) 0 = e ∙ ap (λ (k : ℕ). replicate k 0) n in
+    let m : length part ≡ to - from = ap length f ∙ length-replicate (to - from) 0 in
     record {
-      long = length-set l' to 0 ∙ z.long;
-      before = λ k b. get_or-set_other l' to k 0 0 (omega arith) ∙ z.before k b;
-      zeros = λ k a b. elim (dec_lt k to) [
-        | yes c ↦ get_or-set_other l' to k 0 0 (omega arith) ∙ z.zeros k a c
-        | no c ↦ let e : k ≡ to = omega arith in ap (λ (j : ℕ). get_or (set l' to 0) j 0) e ∙ get_or-set_same l' to 0 0 (let n = z.long in omega arith)
-      ];
-      behind = λ k b. get_or-set_other l' to k 0 0 (omega arith) ∙ z.behind k (omega arith);
+      long = search (rules, places);
+      before = λ k b. search (rules, places);
+      zeros = λ k a b. search (rules, places);
+      behind = λ k b. search (rules, places);
     }

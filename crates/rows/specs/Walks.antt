@@ -23,10 +23,3 @@ Told chars pieces setting grid start = (step : ℕ) → step < setting → start
 pub record Walks (keys ends chars : List ℕ) (setting : ℕ) (grid grid' : List ℕ) : Type 0 where
   pub long : length grid' ≡ length grid
   pub told : (prefixes pieces : List (List ℕ)) → Trie keys ends prefixes pieces → (start : ℕ) → start < length chars → Told chars pieces setting grid' start
-
--- zeros from one place up to another, and all else as it was
-pub record Zeroed (grid : List ℕ) (from to : ℕ) (grid' : List ℕ) : Type 0 where
-  pub long : length grid' ≡ length grid
-  pub before : (k : ℕ) → k < from → get_or grid' k 0 ≡ get_or grid k 0
-  pub zeros : (k : ℕ) → from ≤ k → k < to → get_or grid' k 0 ≡ 0
-  pub behind : (k : ℕ) → to ≤ k → get_or grid' k 0 ≡ get_or grid k 0

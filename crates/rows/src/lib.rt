@@ -8,63 +8,33 @@
 // The word's characters are decoded once, and each start walks over numbers.
 #![tactic(auto)]
 
-ghost use Rattle.std.specs.Prelude.{◌≡◌, cond, ◌≤◌, ◌<◌, ltb, length};
+ghost use Rattle.std.specs.Prelude.{◌<◌};
 ghost use Rattle.rows.specs.Chars.{Decoding, Decodes};
-ghost use Rattle.utf8.specs.Decode.{Right};
 ghost use Rattle.spans.specs.Spans.{many, chars_at};
 ghost use Rattle.spans.specs.Check.{Good};
-ghost use Rattle.rows.specs.Walks.{Walking, Walks, Zeroed};
+ghost use Rattle.rows.specs.Walks.{Walking, Walks};
 ghost use Rattle.rows.specs.Word.{Room, Walked};
 
-use places::{Found, find};
-use utf8::{Decoded, decode_by};
+use places::find;
+use utf8::decode;
 
 // A row of the grid has a number for each step: "Piece length setting at most 32 characters."
-const STRIDE: usize = 32;
+pub const STRIDE: usize = 32;
 
 // Writes a word's characters at the front of a slice, and answers how many they are.
-pub fn characters(classes: &[u8; 256], word: &[u8], chars: &mut [u32]) -> usize
-    requires { Decoding classes.now word.now chars.old }
+pub fn characters(word: &[u8], chars: &mut [u32]) -> usize
+    requires { Decoding word.now chars.old }
     ensures { Decodes word.now chars.old chars.new result }
 {
     let mut at = 0;
     let mut n = 0;
-    while at < word.len() {
-        match decode_by(classes, word, at) {
-            Decoded::Char { code, width } => {
-                chars[n] = code;
-                at += width;
-                n += 1;
-            }
-            // A word is UTF-8, so this never is.
-            Decoded::Bad => {
-                return n;
-            }
-        }
+    // A word is UTF-8, so its characters end where it does.
+    while let Some(found) = decode(word, at) {
+        chars[n] = found.code;
+        at += found.width;
+        n += 1;
     }
     n
-}
-
-// How many steps a walk may take: the length setting, or what is left of the word.
-fn reach(setting: usize, left: usize) -> usize
-    ensures { result ≡ cond (ltb left setting) left setting }
-{
-    if left < setting {
-        return left;
-    }
-    setting
-}
-
-// Zeros from a place of the grid up to another.
-fn clear(grid: &mut [u32], from: usize, to: usize)
-    requires { (from ≤ to) × (to ≤ length grid.old) }
-    ensures { Zeroed grid.old from to grid.new }
-{
-    let mut k = from;
-    while k < to {
-        grid[k] = 0;
-        k += 1;
-    }
 }
 
 // Walks from each start of a word.
@@ -72,26 +42,20 @@ pub fn rows(keys: &[u64], ends: &[u32], chars: &[u32], setting: usize, grid: &mu
     requires { Walking keys.now ends.now chars.now setting grid.old }
     ensures { Walks keys.now ends.now chars.now setting grid.old grid.new }
 {
-    let mut start = 0;
-    while start < chars.len() {
-        let most = reach(setting, chars.len() - start);
+    for start in 0..chars.len() {
+        let most = setting.min(chars.len() - start);
         let mut node: u32 = 0;
+        // A `while`, since what the walk does not reach is cleared from the step at which it stopped.
         let mut step = 0;
         while step < most {
-            match find(keys, node, chars[start + step]) {
-                Found::Node(m) => {
-                    node = m;
-                }
-                Found::Nothing => {
-                    break;
-                }
-            }
-            let p = node as usize - 1;
-            grid[STRIDE * start + step] = ends[p];
+            let Some(child) = find(keys, node, chars[start + step]) else {
+                break;
+            };
+            node = child;
+            grid[STRIDE * start + step] = ends[node as usize - 1];
             step += 1;
         }
-        clear(grid, STRIDE * start + step, STRIDE * start + most);
-        start += 1;
+        grid[STRIDE * start + step..STRIDE * start + most].fill(0);
     }
 }
 
@@ -99,7 +63,6 @@ pub fn rows(keys: &[u64], ends: &[u32], chars: &[u32], setting: usize, grid: &mu
 pub fn walk_word(
     keys: &[u64],
     ends: &[u32],
-    classes: &[u8; 256],
     text: &[u8],
     words: &[u32],
     k: usize,
@@ -107,13 +70,11 @@ pub fn walk_word(
     chars: &mut [u32],
     grid: &mut [u32],
 ) -> usize
-    requires room { Room keys.now ends.now setting chars.old grid.old × Right classes.now }
+    requires room { Room keys.now ends.now setting chars.old grid.old }
     requires k_bound { (k < many words.now) × Good text.now words.now 255 k }
     ensures { Walked keys.now ends.now setting grid.old (chars_at text.now words.now k) grid.new result }
 {
-    let low = spans::from(words, k);
-    let high = low + spans::bytes(words, k);
-    let n = characters(classes, &text[low..high], chars);
+    let n = characters(spans::octets(text, words, k), chars);
     rows(keys, ends, &chars[..n], setting, grid);
     n
 }

@@ -2,7 +2,7 @@
 use mathlib.Core.Path.{◌≡◌, refl, sym, ap, ap₂, ◌∙◌, subst}
 use mathlib.Core.List.{List, [], ◌∷◌, ◌++◌, map, append_assoc}
 use mathlib.Core.Logic.{◌⊎◌, inl, inr, ⊎_elim}
-use Prim.Native.Nat.{ℕ, zero, suc, ◌+◌, ◌-◌, ◌*◌, ◌/◌, ◌≤◌, ◌<◌, ◌^◌, min, max}
+use Prim.Native.Nat.{ℕ, zero, suc, ◌+◌, ◌-◌, ◌*◌, ◌≤◌, ◌<◌, ◌^◌, min, max}
 use native.Mathlib.Omega.{arith}
 use native.Mathlib.Nat.{mul-le-mul_left}
 use lib.ListN.{length, take, drop, length-append, length-map, length-take}
@@ -37,13 +37,6 @@ use Rattle.seed.specs.Seed.{corpus_of, slots_of, Asked, Lists, Exceeds}
 use Rattle.seed.specs.Steps as steps
 use Rattle.seed.proofs.Slices.{cut_long, packed_join}
 use Rattle.seed.proofs.Corpora.{corpus_positioned, Entered, found_entered}
-
--- ---- the slots
-pub slots_are : (pieces counts order work keys : List ℕ) (scores : List Float) {v w x y z : ℕ} → v ≡ min (length work) (length keys)
-    → w ≡ min (length order) v → x ≡ min (length scores) w → y ≡ min (length counts) x → z ≡ min (length pieces / 2) y
-    → z ≡ slots_of pieces counts scores order work keys
-slots_are pieces counts order work keys scores a b c d e =
-    e ∙ ap (min (length pieces / 2)) (d ∙ ap (min (length counts)) (c ∙ ap (min (length scores)) (b ∙ ap (min (length order)) a)))
 
 -- ---- items of lists
 in_join : {A : Type 0} (e : A) (xs ys : List A) → In e (xs ++ ys) → In e xs ⊎ In e ys

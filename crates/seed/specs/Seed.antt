@@ -1,13 +1,12 @@
 -- What seeding promises, in document 01's words: port order 8, and NoRoom at place 1. Definitions only.
-use Rattle.std.specs.Prelude.{◌≡◌, List, ℕ, ◌*◌, ◌/◌, ◌≤◌, ◌<◌, ◌^◌, min, max, length, get_or, take, Float}
+use Rattle.std.specs.Prelude.{◌≡◌, List, ℕ, ◌*◌, ◌/◌, ◌≤◌, ◌<◌, ◌^◌, min, max, length, get_or, take, Float, Option, Some, None}
 use Rattle.spans.specs.Spans.{many, chars_at, first, listed}
 use Rattle.spans.specs.Check.{AllGood}
 use Rattle.positions.specs.Gathered.{bytes_before, Gathering}
 use Rattle.ranking.specs.Corpus.{Corpus, weight}
 use Rattle.ranking.specs.Seed.{Uncut, Seeded, counts}
 use Rattle.ranking.specs.Scores.{seed_scores}
-use Rattle.seed.specs.declared.Answer.{Answer}
-use Rattle.seed.specs.declared.Answer.TheVariants.{Listed, NoRoom}
+use Rattle.seed.specs.declared.Listed.{Listed}
 
 -- the words of a text with their frequencies
 abbrev pub corpus_of : List ℕ → List ℕ → List ℕ → Corpus
@@ -45,7 +44,7 @@ pub record Exceeds (corpus : Corpus) (setting least slots : ℕ) : Type 0 where
   pub uncut : Uncut corpus setting least size
   pub over : slots < size
 
-abbrev pub Answers : List ℕ → Corpus → ℕ → ℕ → ℕ → ℕ → List ℕ → List ℕ → List Float → Answer → Type 0
-Answers text corpus setting least pool slots pieces tallies scores (Listed required many) =
-    Lists text corpus setting least pool slots pieces tallies scores required many
-Answers text corpus setting least pool slots pieces tallies scores NoRoom = Exceeds corpus setting least slots
+abbrev pub Answers : List ℕ → Corpus → ℕ → ℕ → ℕ → ℕ → List ℕ → List ℕ → List Float → Option Listed → Type 0
+Answers text corpus setting least pool slots pieces tallies scores (Some l) =
+    Lists text corpus setting least pool slots pieces tallies scores l.required l.many
+Answers text corpus setting least pool slots pieces tallies scores None = Exceeds corpus setting least slots

@@ -6,26 +6,18 @@
 // with scores. More pieces before the cut than slots is document 01's NoRoom at place 1.
 #![tactic(auto)]
 
-ghost use Rattle.std.specs.Prelude.{◌≡◌, max};
+ghost use Rattle.std.specs.Prelude.{◌≡◌};
 ghost use Rattle.seed.specs.Seed.{corpus_of, slots_of, Asked, Answers};
 ghost use Rattle.seed.specs.Steps.{Writing, Written, Listing, ListedNow};
 
 use listed::{score_all, spell};
 use seeding::{find_all, gather_in_order, kept, rank_both};
-use slots::lesser;
 
-// The list, or more pieces than slots.
-#[derive(Clone, Copy)]
-pub enum Answer {
-    Listed { required: usize, many: usize },
-    NoRoom,
-}
-
-// The greater of two numbers.
-fn greater(a: usize, b: usize) -> usize
-    ensures { result ≡ max a b }
-{
-    if a < b { b } else { a }
+// How many pieces the list has; the first `required` of them are the characters.
+#[derive(Clone, Copy, Debug, PartialEq, Eq)]
+pub struct Listed {
+    pub required: usize,
+    pub many: usize,
 }
 
 // How many pieces have a slot in each slice.
@@ -39,11 +31,13 @@ fn slots(
 ) -> usize
     ensures { result ≡ slots_of pieces.now counts.now scores.now order.now work.now keys.now }
 {
-    let shared = lesser(order.len(), lesser(work.len(), keys.len()));
-    lesser(
-        pieces.len() / 2,
-        lesser(counts.len(), lesser(scores.len(), shared)),
-    )
+    let pairs = pieces.len() / 2;
+    pairs
+        .min(counts.len())
+        .min(scores.len())
+        .min(order.len())
+        .min(work.len())
+        .min(keys.len())
 }
 
 // Writes the first `many` pieces as spans of the text, and their scores.
@@ -94,7 +88,8 @@ fn list(
     many
 }
 
-// Finds the pieces of a corpus. All words are checked, and each work slice has room for every position.
+// Finds the pieces of a corpus: none where there are more than slots. All words are checked, and each work slice has room for
+// every position.
 pub fn seed(
     text: &[u8],
     words: &[u32],
@@ -110,12 +105,12 @@ pub fn seed(
     pieces: &mut [u32],
     counts: &mut [u64],
     scores: &mut [f64],
-) -> Answer
+) -> Option<Listed>
     requires { Asked text.now words.now frequencies.now setting chars.old places.old order.old work.old keys.old }
     ensures { Answers text.now (corpus_of text.now words.now frequencies.now) setting least pool (slots_of pieces.old counts.old scores.old order.old work.old keys.old) pieces.new counts.new scores.new result }
 {
     let room = slots(pieces, counts, scores, order, work, keys);
-    let n = gather_in_order(text, words, greater(1, setting), chars, places, order, work);
+    let n = gather_in_order(text, words, setting.max(1), chars, places, order, work);
     let found = find_all(
         chars,
         places,
@@ -131,10 +126,10 @@ pub fn seed(
     let required = found.required;
     let size = found.size;
     if room < size {
-        return Answer::NoRoom;
+        return None;
     }
     let many = list(
         words, places, n, required, size, pool, order, work, keys, pieces, counts, scores,
     );
-    Answer::Listed { required, many }
+    Some(Listed { required, many })
 }

@@ -1,24 +1,20 @@
 -- Which settings are refused: document 01's table, row 2, "a setting beyond its bound", with "1 vocab, 2 seed, 3 piece length,
 -- 4 EM, 5 specials", the lowest place first. The bounds are those of "Numbers that bound the work". Definitions only.
-use Rattle.std.specs.Prelude.{List, ℕ, ◌≤◌}
+use Rattle.std.specs.Prelude.{List, ℕ, ◌≤◌, Option, Some, None, Result, Ok, Err}
 use Rattle.refusal.specs.declared.Refusal.{Refusal}
 use Rattle.refusal.specs.declared.Refusal.TheVariants.{BadSetting}
 use Rattle.spans.specs.Spans.{many}
 use Rattle.spans.specs.Check.{AllGood}
 use Rattle.settings.specs.declared.Settings.{Settings}
-use Rattle.settings.specs.declared.SeedSize.{SeedSize}
-use Rattle.settings.specs.declared.SeedSize.TheVariants.{Unset, Set}
-use Rattle.settings.specs.declared.Checked.{Checked}
-use Rattle.settings.specs.declared.Checked.TheVariants.{Fine, Refused}
 
 -- "`vocab_size` ≤ 65,536"
 abbrev pub VocabWithin : Settings → Type 0
 VocabWithin settings = settings.vocab_size ≤ 65536
 
 -- "`seed_size`, if set, ≤ 1,048,576"
-abbrev pub SeedWithin : SeedSize → Type 0
-SeedWithin (Set size) = size ≤ 1048576
-SeedWithin Unset = Unit {0}
+abbrev pub SeedWithin : Option ℕ → Type 0
+SeedWithin (Some size) = size ≤ 1048576
+SeedWithin None = Unit {0}
 
 -- "Piece length setting at most 32 characters."
 abbrev pub LengthWithin : Settings → Type 0
@@ -52,6 +48,6 @@ pub data Why (settings : Settings) (texts specials : List ℕ) : Refusal → Typ
   bad_specials : VocabWithin settings → SeedWithin settings.seed_size → LengthWithin settings → EmWithin settings
       → (SpecialsWithin texts specials → ⊥) → Why settings texts specials (BadSetting 5)
 
-abbrev pub Answers : Settings → List ℕ → List ℕ → Checked → Type 0
-Answers settings texts specials Fine = InBounds settings texts specials
-Answers settings texts specials (Refused refusal) = Why settings texts specials refusal
+abbrev pub Answers : Settings → List ℕ → List ℕ → Result (Unit {0}) Refusal → Type 0
+Answers settings texts specials (Ok _) = InBounds settings texts specials
+Answers settings texts specials (Err refusal) = Why settings texts specials refusal

@@ -12,34 +12,21 @@ ghost use Rattle.settings.specs.Check.{SeedWithin, SpecialsWithin, Answers};
 
 use refusal::Refusal;
 
-// "`seed_size`, if set": 001's `Option<usize>`.
-#[derive(Clone, Copy)]
-pub enum SeedSize {
-    Unset,
-    Set(usize),
-}
-
-#[derive(Clone, Copy)]
+#[derive(Clone, Copy, Debug, PartialEq)]
 pub struct Settings {
     pub vocab_size: usize,
-    pub seed_size: SeedSize,
+    // None where it is unset.
+    pub seed_size: Option<usize>,
     pub max_piece_chars: usize,
     pub min_frequency: u64,
     pub shrink_factor: f64,
     pub em_iterations: usize,
 }
 
-// All settings are within their bounds, or why not.
-#[derive(Clone, Copy)]
-pub enum Checked {
-    Fine,
-    Refused(Refusal),
-}
-
 impl Settings {
     pub const DEFAULT_VOCAB_SIZE: usize = 8_000;
 
-    pub const DEFAULT_SEED_SIZE: SeedSize = SeedSize::Unset;
+    pub const DEFAULT_SEED_SIZE: Option<usize> = None;
 
     pub const DEFAULT_MAX_PIECE_CHARS: usize = 16;
 
@@ -69,47 +56,31 @@ impl Settings {
     pub fn target(self, specials: usize) -> usize
         ensures { result ≡ target_of self specials }
     {
-        if self.vocab_size < specials {
-            return 0;
-        }
-        self.vocab_size - specials
+        self.vocab_size.saturating_sub(specials)
     }
 
     // "Pool is the larger of target and `seed_size` (or 16 times target)."
     pub fn pool(self, target: usize) -> usize
         ensures { result ≡ pool_of self target }
     {
-        let seed_size = self.seed_size;
-        let seeds = seed(seed_size, target);
-        if seeds < target {
-            return target;
-        }
-        seeds
+        target.max(seed(self.seed_size, target))
     }
 }
 
-// The seed's size, or 16 times target, which stops at the largest number as 001's `saturating_mul` does.
-fn seed(size: SeedSize, target: usize) -> usize
+// The seed's size, or 16 times target, which stops at the largest number as 001's does.
+fn seed(size: Option<usize>, target: usize) -> usize
     ensures { result ≡ seed_of size target }
 {
-    match size {
-        SeedSize::Set(pieces) => pieces,
-        SeedSize::Unset => {
-            if usize::MAX / Settings::DEFAULT_SEED_MULTIPLE < target {
-                return usize::MAX;
-            }
-            Settings::DEFAULT_SEED_MULTIPLE * target
-        }
-    }
+    size.unwrap_or(target.saturating_mul(Settings::DEFAULT_SEED_MULTIPLE))
 }
 
 // Whether the seed's size is within its bound, which one that is unset always is.
-fn seed_within(size: SeedSize) -> bool
+fn seed_within(size: Option<usize>) -> bool
     ensures { Says result (SeedWithin size) }
 {
     match size {
-        SeedSize::Set(pieces) => pieces <= refusal::SEED_SIZE,
-        SeedSize::Unset => true,
+        Some(pieces) => pieces <= refusal::SEED_SIZE,
+        None => true,
     }
 }
 
@@ -117,34 +88,28 @@ fn seed_within(size: SeedSize) -> bool
 fn specials_within(texts: &[u8], specials: &[u32]) -> bool
     ensures { Says result (SpecialsWithin texts.now specials.now) }
 {
-    if refusal::SPECIALS < spans::count(specials) {
-        return false;
-    }
-    match spans::check(texts, specials, refusal::SPECIAL_BYTES) {
-        spans::Checked::BadAt(_) => false,
-        spans::Checked::Fine => true,
-    }
+    spans::count(specials) <= refusal::SPECIALS
+        && spans::check(texts, specials, refusal::SPECIAL_BYTES).is_ok()
 }
 
 // The first setting that is beyond its bound.
-pub fn check(settings: Settings, texts: &[u8], specials: &[u32]) -> Checked
+pub fn check(settings: Settings, texts: &[u8], specials: &[u32]) -> Result<(), Refusal>
     ensures { Answers settings texts.now specials.now result }
 {
     if refusal::VOCAB_SIZE < settings.vocab_size {
-        return Checked::Refused(Refusal::BadSetting(refusal::BAD_SETTING_VOCAB));
+        return Err(Refusal::BadSetting(refusal::BAD_SETTING_VOCAB));
     }
-    let seed_size = settings.seed_size;
-    if !seed_within(seed_size) {
-        return Checked::Refused(Refusal::BadSetting(refusal::BAD_SETTING_SEED));
+    if !seed_within(settings.seed_size) {
+        return Err(Refusal::BadSetting(refusal::BAD_SETTING_SEED));
     }
     if refusal::PIECE_LENGTH < settings.max_piece_chars {
-        return Checked::Refused(Refusal::BadSetting(refusal::BAD_SETTING_PIECE_LENGTH));
+        return Err(Refusal::BadSetting(refusal::BAD_SETTING_PIECE_LENGTH));
     }
     if refusal::EM_ITERATIONS < settings.em_iterations {
-        return Checked::Refused(Refusal::BadSetting(refusal::BAD_SETTING_EM));
+        return Err(Refusal::BadSetting(refusal::BAD_SETTING_EM));
     }
     if !specials_within(texts, specials) {
-        return Checked::Refused(Refusal::BadSetting(refusal::BAD_SETTING_SPECIALS));
+        return Err(Refusal::BadSetting(refusal::BAD_SETTING_SPECIALS));
     }
-    Checked::Fine
+    Ok(())
 }

@@ -1,6 +1,7 @@
 -- From a seed list in its slices to the first lattices, to the rounds and to what they leave. Assumes nothing.
 use mathlib.Core.Path.{◌≡◌, refl, sym, ap, ◌∙◌, subst}
 use mathlib.Core.List.{List}
+use Rattle.std.specs.Prelude.{Result, Ok, Err}
 use Prim.Native.Nat.{ℕ, ◌*◌, ◌/◌, ◌≤◌}
 use native.Mathlib.Omega.{arith}
 use lib.ListN.{length, take, replicate}
@@ -13,8 +14,6 @@ use Rattle.ranking.specs.Scores.{seed_scores}
 use Rattle.listing.specs.Start as start
 use Rattle.fresh.specs.Build as fresh
 use Rattle.fresh.specs.Steps.{InOrder, Follows}
-use Rattle.fresh.specs.declared.Built.{Built}
-use Rattle.fresh.specs.declared.Built.TheVariants.{Edges, Refused}
 use Rattle.model.specs.Model.{Model, Task, lattices}
 use Rattle.shrink.specs.At.{Slices, At}
 use Rattle.rounds.specs.Steps.{Settled, Rounding, Rounds}
@@ -24,7 +23,6 @@ use Rattle.begun.proofs.Words as words
 use Rattle.begun.proofs.Pieces as pieces
 use Rattle.begun.proofs.First as first
 use Rattle.shape.specs.Steps.{Shaping, ShapesTo}
-use Rattle.shape.specs.declared.Shaped.TheVariants.{Pieces}
 
 module _ (settings : Settings) (target : ℕ) (text kept frequencies : List ℕ) (many count required : ℕ) (spans : List ℕ) (scores : List Float) where
   -- ---- whatever words the list comes from
@@ -74,10 +72,10 @@ module _ (settings : Settings) (target : ℕ) (text kept frequencies : List ℕ)
       in_order keys ends = first.in_order x h.work y many count required given asked keys ends
 
       module _ (keys ends : List ℕ) (z z' : fresh.Results) where
-        pub refused : (refusal : Refusal) (r : Built) → r ≡ Refused refusal → Follows (built_of x y many count) z keys ends z' r → Unlaid t m keys ends z refusal
+        pub refused : (refusal : Refusal) (r : Result ℕ Refusal) → r ≡ Err refusal → Follows (built_of x y many count) z keys ends z' r → Unlaid t m keys ends z refusal
         refused refusal r q f = (first.refused x h.work y many count required given asked keys ends z z' refusal (subst (Follows (built_of x y many count) z keys ends z') q f)).0
 
-        module _ (edges : ℕ) (r : Built) (q : r ≡ Edges edges) (f : Follows (built_of x y many count) z keys ends z' r) where
+        module _ (edges : ℕ) (r : Result ℕ Refusal) (q : r ≡ Ok edges) (f : Follows (built_of x y many count) z keys ends z' r) where
           taken : fresh.Accepted (built_of x y many count) z (record { keys = keys; ends = ends; table = replicate (2 * count) 0 }) z' edges
           taken = first.accepted x h.work y many count required given asked keys ends z z' edges (subst (Follows (built_of x y many count) z keys ends z') q f)
 
@@ -101,7 +99,7 @@ module _ (settings : Settings) (target : ℕ) (text kept frequencies : List ℕ)
           -- ---- what the rounds leave
           pub shaped : target ≡ target_in x → (pieces' : List ℕ) (scores' : List Float) (left : ℕ)
               → Rounds settings.max_piece_chars text many (take many frequencies) settings.em_iterations settings.shrink_factor target required count edges s pieces' scores' left
-              → ShapesTo t m text keys ends z pieces' scores' (Pieces left)
+              → ShapesTo t m text keys ends z pieces' scores' (Ok left)
           shaped e pieces' scores' left d =
               (trie_fits, cache_fits, d t m (first.first_fixed x h.work y many count required given) (settled e) (first.first_sound x h.work y many count required given asked) at)
 

@@ -3,3 +3,4 @@ pub mod Good
 pub mod Weighed
 pub mod Narrowed
 pub mod Cut
+pub mod Lent

@@ -13,8 +13,7 @@ use Rattle.lattice.specs.Lattice.{Edge}
 use Rattle.cached.specs.Held.{Held}
 use Rattle.trie.specs.Prefixes.{prefixes_of}
 use Rattle.trie.specs.Listed.{newest}
-use Rattle.trie.specs.declared.Indexed.{Indexed}
-use Rattle.trie.specs.declared.Indexed.TheVariants.{Nodes, NoRoom}
+use Rattle.std.specs.Prelude.{Option, Some, None}
 use Rattle.trie.proofs.Indexing.{indexing_good}
 use Rattle.trie.proofs.Same.{length_first}
 use Rattle.rows.specs.Word.{Holds}
@@ -104,12 +103,12 @@ module _ (setting : ℕ) (text : List ℕ) (words : ℕ) (frequencies : List ℕ
         let c = w.trie_room in
         omega arith
 
-    trie_of : (r : Indexed) → Fronted keys places text s.pieces keys' ends' r → Holds (take places keys') (take places ends') (chars_at text s.pieces) (many s.pieces)
-    trie_of (Nodes n) i = i.trie
-    trie_of NoRoom i = absurd (omega (arith, nodes_fit))
+    trie_of : (r : Option ℕ) → Fronted keys places text s.pieces keys' ends' r → Holds (take places keys') (take places ends') (chars_at text s.pieces) (many s.pieces)
+    trie_of (Some n) i = i.trie
+    trie_of None i = absurd (omega (arith, nodes_fit))
 
     -- ---- the losses
-    module _ (r : Indexed) (i : Fronted keys places text s.pieces keys' ends' r) (uses' : List Float) (bits' : List ℕ) (u : length uses' ≡ used) (b : length bits' ≡ bits) where
+    module _ (r : Option ℕ) (i : Fronted keys places text s.pieces keys' ends' r) (uses' : List Float) (bits' : List ℕ) (u : length uses' ≡ used) (b : length bits' ≡ bits) where
       pub losses_given : LossesGiven text s.pieces setting (take places keys') (take places ends') s.scores uses' bits'
       losses_given =
           let n = many_are w.exact w.at in

@@ -5,8 +5,7 @@ use Prim.Native.Nat.{ℕ, ◌<◌}
 use native.Mathlib.Omega.{arith}
 use native.Mathlib.Decide.{dec_lt}
 use Rattle.spans.specs.Check.{FirstBad, Answers}
-use Rattle.spans.specs.declared.Checked.{Checked}
-use Rattle.spans.specs.declared.Checked.TheVariants.{Fine, BadAt}
+use Rattle.std.specs.Prelude.{Result, Ok, Err}
 
 module _ (text spans : List ℕ) (most : ℕ) where
   not_before : {j k : ℕ} → FirstBad text spans most j → FirstBad text spans most k → j < k → ⊥
@@ -21,8 +20,8 @@ module _ (text spans : List ℕ) (most : ℕ) where
     ]
   ]
 
-  pub one_answer : (r s : Checked) → Answers text spans most r → Answers text spans most s → r ≡ s
-  one_answer Fine Fine p q = refl
-  one_answer Fine (BadAt k) p q = absurd (q.bad (p k q.within))
-  one_answer (BadAt j) Fine p q = absurd (p.bad (q j p.within))
-  one_answer (BadAt j) (BadAt k) p q = ap BadAt (one_bad j k p q)
+  pub one_answer : (r s : Result (Unit {0}) ℕ) → Answers text spans most r → Answers text spans most s → r ≡ s
+  one_answer (Ok a) (Ok b) p q = refl
+  one_answer (Ok a) (Err k) p q = absurd (q.bad (p k q.within))
+  one_answer (Err j) (Ok b) p q = absurd (p.bad (q j p.within))
+  one_answer (Err j) (Err k) p q = ap Err (one_bad j k p q)

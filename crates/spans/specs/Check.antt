@@ -1,9 +1,7 @@
 -- Which words or pieces are refused: over so many bytes, outside the text, or not UTF-8. Definitions only.
-use Rattle.std.specs.Prelude.{List, ℕ, ◌≤◌, ◌<◌}
+use Rattle.std.specs.Prelude.{List, ℕ, ◌≤◌, ◌<◌, Result, Ok, Err}
 use Rattle.utf8.specs.Encode.{Spells}
 use Rattle.spans.specs.Spans.{many, bytes, Inside, octets, chars_at}
-use Rattle.spans.specs.declared.Checked.{Checked}
-use Rattle.spans.specs.declared.Checked.TheVariants.{Fine, BadAt}
 
 -- inside its text, of at most so many bytes, and UTF-8
 pub record Good (text spans : List ℕ) (most k : ℕ) : Type 0 where
@@ -20,6 +18,6 @@ pub record FirstBad (text spans : List ℕ) (most k : ℕ) : Type 0 where
   pub before : AllGood text spans most k
   pub bad : Good text spans most k → ⊥
 
-abbrev pub Answers : List ℕ → List ℕ → ℕ → Checked → Type 0
-Answers text spans most Fine = AllGood text spans most (many spans)
-Answers text spans most (BadAt k) = FirstBad text spans most k
+abbrev pub Answers : List ℕ → List ℕ → ℕ → Result (Unit {0}) ℕ → Type 0
+Answers text spans most (Ok _) = AllGood text spans most (many spans)
+Answers text spans most (Err k) = FirstBad text spans most k

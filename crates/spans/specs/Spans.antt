@@ -23,6 +23,11 @@ octets text spans k = take (bytes spans k) (drop (from spans k) text)
 abbrev pub chars_at : List ℕ → List ℕ → ℕ → List ℕ
 chars_at text spans k = chars_of (octets text spans k)
 
+-- how many bytes the first k have
+abbrev pub bytes_before : List ℕ → ℕ → ℕ
+bytes_before spans zero = 0
+bytes_before spans (suc k) = bytes_before spans k + bytes spans k
+
 -- the first n values of f
 abbrev pub first : {A : Type 0} → (ℕ → A) → ℕ → List A
 first f zero = []

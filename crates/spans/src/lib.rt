@@ -5,19 +5,12 @@
 // BadPiece: "over 255 bytes, or outside the text" and "not UTF-8 or outside its text", at the lowest index.
 #![tactic(auto)]
 
-ghost use Rattle.std.specs.Prelude.{◌≡◌, ◌+◌, ◌*◌, ◌<◌, length};
+ghost use Rattle.std.specs.Prelude.{◌≡◌, ◌+◌, ◌*◌, ◌≤◌, ◌<◌, length};
 ghost use Rattle.laws.specs.Tests.{Says};
-ghost use Rattle.spans.specs.Spans.{many, from, bytes};
+ghost use Rattle.spans.specs.Spans.{many, from, bytes, Inside, octets, bytes_before};
 ghost use Rattle.spans.specs.Check.{Good, Answers};
 
-use utf8::{Text, measure};
-
-// All words or pieces are as they should be, or the first that is not.
-#[derive(Clone, Copy)]
-pub enum Checked {
-    Fine,
-    BadAt(usize),
-}
+use utf8::measure;
 
 // How many words or pieces there are.
 pub fn count(spans: &[u32]) -> usize
@@ -42,37 +35,50 @@ pub fn bytes(spans: &[u32], k: usize) -> usize
     spans[2 * k + 1] as usize
 }
 
+// Its bytes.
+pub fn octets<'a>(text: &'a [u8], spans: &[u32], k: usize) -> &'a [u8]
+    requires { (k < many spans.now) × Inside text.now spans.now k }
+    ensures { result.now ≡ octets text.now spans.now k }
+{
+    let low = from(spans, k);
+    &text[low..low + bytes(spans, k)]
+}
+
+// How many bytes all have together. So many numbers of 32 bits have a sum of 64 bits.
+pub fn all_bytes(spans: &[u32]) -> usize
+    requires { many spans.now ≤ 4294967296 }
+    ensures { result ≡ bytes_before spans.now (many spans.now) }
+{
+    let mut sum = 0;
+    for k in 0..count(spans) {
+        sum += bytes(spans, k);
+    }
+    sum
+}
+
 // Whether one lies inside its text, has at most so many bytes, and is UTF-8.
 fn good(text: &[u8], spans: &[u32], most: usize, k: usize) -> bool
     requires { k < many spans.now }
     ensures { Says result (Good text.now spans.now most k) }
 {
-    let low = from(spans, k);
     let long = bytes(spans, k);
     if most < long {
         return false;
     }
-    let high = low + long;
-    if text.len() < high {
+    if text.len() < from(spans, k) + long {
         return false;
     }
-    match measure(&text[low..high]) {
-        Text::Chars(_) => true,
-        Text::BadAt(_) => false,
-    }
+    measure(octets(text, spans, k)).is_ok()
 }
 
-// The first word or piece that is outside its text, over so many bytes, or not UTF-8.
-pub fn check(text: &[u8], spans: &[u32], most: usize) -> Checked
+// All words or pieces are as they should be; or the first that is outside its text, over so many bytes, or not UTF-8.
+pub fn check(text: &[u8], spans: &[u32], most: usize) -> Result<(), usize>
     ensures { Answers text.now spans.now most result }
 {
-    let many = count(spans);
-    let mut k = 0;
-    while k < many {
+    for k in 0..count(spans) {
         if !good(text, spans, most, k) {
-            return Checked::BadAt(k);
+            return Err(k);
         }
-        k += 1;
     }
-    Checked::Fine
+    Ok(())
 }

@@ -4,21 +4,16 @@
 // whoever trains goes on with what stands here, and clears at the end.
 #![tactic(auto)]
 
-ghost use Rattle.std.specs.Prelude.{◌≡◌, ◌*◌, length, take};
+ghost use Rattle.std.specs.Prelude.{◌≡◌, length};
 ghost use Rattle.spans.specs.Spans.{many};
-ghost use Rattle.listing.specs.Start.{count_of, Answers};
+ghost use Rattle.listing.specs.Start.{lists_of, paired_of, Answers};
 
-use listing::{Checked, Started};
-use settings::Settings;
+use listing::{Lent, Seeded};
+use refusal::Refusal;
 
 // Checks words and frequencies that are equally many, and lists them.
 fn check_and_list(
-    settings: Settings,
-    texts: &[u8],
-    specials: &[u32],
-    text: &[u8],
-    words: &[u32],
-    frequencies: &[u64],
+    lent: &Lent,
     kept: &mut [u32],
     counts: &mut [u64],
     chars: &mut [u32],
@@ -30,52 +25,20 @@ fn check_and_list(
     tallies: &mut [u64],
     scores: &mut [f64],
     table: &mut [u32],
-) -> Started
-    requires { length frequencies.now ≡ many words.now }
-    ensures { Answers (record { settings = settings; texts = texts.now; specials = specials.now; text = text.now; words = words.now; frequencies = frequencies.now }) (record { kept = kept.old; counts = counts.old; chars = chars.old; places = places.old; order = order.old; work = work.old; ranks = ranks.old; pieces = pieces.old; tallies = tallies.old; scores = scores.old; table = table.old }) (record { kept = kept.new; counts = counts.new; pieces = pieces.new; tallies = tallies.new; scores = scores.new }) result }
+) -> Result<Seeded, Refusal>
+    requires { length lent.now.frequencies.now ≡ many lent.now.words.now }
+    ensures { Answers (lists_of lent.now) (record { kept = kept.old; counts = counts.old; chars = chars.old; places = places.old; order = order.old; work = work.old; ranks = ranks.old; pieces = pieces.old; tallies = tallies.old; scores = scores.old; table = table.old }) (record { kept = kept.new; counts = counts.new; pieces = pieces.new; tallies = tallies.new; scores = scores.new }) result }
 {
     let room = listing::positions(chars, places, order, work, ranks);
-    match listing::check(
-        settings,
-        texts,
-        specials,
-        text,
-        words,
-        frequencies,
-        kept,
-        counts,
-        table,
-        room,
-    ) {
-        Checked::Refused(refusal) => Started::Refused(refusal),
-        Checked::Fine => listing::list(
-            settings,
-            spans::count(specials),
-            text,
-            words,
-            frequencies,
-            kept,
-            counts,
-            chars,
-            places,
-            order,
-            work,
-            ranks,
-            pieces,
-            tallies,
-            scores,
-        ),
-    }
+    listing::check(lent, kept, counts, table, room)?;
+    listing::list(
+        lent, kept, counts, chars, places, order, work, ranks, pieces, tallies, scores,
+    )
 }
 
 // Makes the seed list of the words that are lent, or refuses.
 pub fn start(
-    settings: Settings,
-    texts: &[u8],
-    specials: &[u32],
-    text: &[u8],
-    words: &[u32],
-    frequencies: &[u64],
+    lent: &Lent,
     kept: &mut [u32],
     counts: &mut [u64],
     chars: &mut [u32],
@@ -87,28 +50,17 @@ pub fn start(
     tallies: &mut [u64],
     scores: &mut [f64],
     table: &mut [u32],
-) -> Started
-    ensures { Answers (record { settings = settings; texts = texts.now; specials = specials.now; text = text.now; words = take (2 * (count_of words.now frequencies.now)) words.now; frequencies = take (count_of words.now frequencies.now) frequencies.now }) (record { kept = kept.old; counts = counts.old; chars = chars.old; places = places.old; order = order.old; work = work.old; ranks = ranks.old; pieces = pieces.old; tallies = tallies.old; scores = scores.old; table = table.old }) (record { kept = kept.new; counts = counts.new; pieces = pieces.new; tallies = tallies.new; scores = scores.new }) result }
+) -> Result<Seeded, Refusal>
+    ensures { Answers (paired_of (lists_of lent.now)) (record { kept = kept.old; counts = counts.old; chars = chars.old; places = places.old; order = order.old; work = work.old; ranks = ranks.old; pieces = pieces.old; tallies = tallies.old; scores = scores.old; table = table.old }) (record { kept = kept.new; counts = counts.new; pieces = pieces.new; tallies = tallies.new; scores = scores.new }) result }
 {
-    let many = listing::count(words, frequencies);
+    let many = listing::count(lent.words, lent.frequencies);
     let numbers = 2 * many;
+    let paired = Lent {
+        words: &lent.words[..numbers],
+        frequencies: &lent.frequencies[..many],
+        ..*lent
+    };
     check_and_list(
-        settings,
-        texts,
-        specials,
-        text,
-        &words[..numbers],
-        &frequencies[..many],
-        kept,
-        counts,
-        chars,
-        places,
-        order,
-        work,
-        ranks,
-        pieces,
-        tallies,
-        scores,
-        table,
+        &paired, kept, counts, chars, places, order, work, ranks, pieces, tallies, scores, table,
     )
 }

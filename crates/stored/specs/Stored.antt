@@ -1,10 +1,10 @@
 -- What the frames say, frame after frame: document 01, "Frames", and NoRoom 5, "the program's word room". Definitions only.
-use Rattle.std.specs.Prelude.{ℕ, ◌+◌, ◌*◌, ◌/◌, Bool, true, false, cond, not, ◌&&◌, List, [], ◌∷◌, leb, ltb, length, take, drop, set}
+use Rattle.std.specs.Prelude.{ℕ, ◌+◌, ◌*◌, ◌/◌, Bool, true, false, cond, not, ◌&&◌, List, [], ◌∷◌, leb, ltb, length, take, drop, set, Option, None, Some}
 use Rattle.std.proofs.lemmas.List.Edits.{sets}
 use Rattle.settings.specs.declared.Settings.{Settings}
 use Rattle.settings.specs.Settings.{defaults}
 use Rattle.frames.specs.declared.input.Frame.{Frame}
-use Rattle.frames.specs.declared.input.Frame.TheVariants.{Settings as First, Special, Word, Count, Bad}
+use Rattle.frames.specs.declared.input.Frame.TheVariants.{Settings as First, Special, Word, Count}
 use Rattle.stored.specs.declared.Run.{Run}
 use Rattle.stored.specs.declared.Stored.{Stored}
 
@@ -89,9 +89,9 @@ with_word t frequency bytes from long =
     })
     (record { settings = t.settings; specials = t.specials; words = t.words; frequencies = t.frequencies; short = true })
 
-unfoldable pub store_of : Tables → Frame → List ℕ → Tables
-store_of t (First settings specials) bytes = with_settings t settings
-store_of t (Special from long) bytes = with_special t bytes from long
-store_of t (Word frequency from long) bytes = with_word t frequency bytes from long
-store_of t (Count count) bytes = t
-store_of t Bad bytes = t
+unfoldable pub store_of : Tables → Option Frame → List ℕ → Tables
+store_of t (Some (First settings specials)) bytes = with_settings t settings
+store_of t (Some (Special from long)) bytes = with_special t bytes from long
+store_of t (Some (Word frequency from long)) bytes = with_word t frequency bytes from long
+store_of t (Some (Count count)) bytes = t
+store_of t None bytes = t

@@ -6,21 +6,21 @@
 #![tactic(auto)]
 
 ghost use Rattle.std.specs.Prelude.{◌≡◌, true, List, ℕ, ◌+◌, leb};
-ghost use Rattle.stored.specs.Stored.{texts as texts_of, tables, part, fits, behind, nothing, has_room, with_settings, with_special, with_word, store_of};
+ghost use Rattle.stored.specs.Stored.{texts as texts_of, tables, part, fits, behind, nothing, has_room, with_special, with_word, store_of};
 
 use copied::put;
 use frames::Frame;
 use settings::Settings;
 
 // How many texts a slice of spans has, and how many bytes they have together.
-#[derive(Clone, Copy)]
+#[derive(Clone, Copy, Debug, PartialEq, Eq)]
 pub struct Run {
     pub bytes: usize,
     pub count: usize,
 }
 
-// What is stored; `short` where a word had no room.
-#[derive(Clone, Copy)]
+// What is stored; `short` where a word had no room. The words before it stand, so this is no Option of theirs.
+#[derive(Clone, Copy, Debug, PartialEq)]
 pub struct Stored {
     pub settings: Settings,
     pub specials: Run,
@@ -52,8 +52,9 @@ fn fits(run: Run, bytes: &[u8], from: usize, length: usize, text: &[u8], spans: 
     ensures { result ≡ fits (texts_of run text.now spans.now) bytes.now from length }
 {
     within(from, length, bytes.len())
-        && (within(run.bytes, length, text.len())
-            && (within(run.bytes, length, 4294967295) && run.count < spans.len() / 2))
+        && within(run.bytes, length, text.len())
+        && within(run.bytes, length, u32::MAX as usize)
+        && run.count < spans.len() / 2
 }
 
 // A run with a part of a frame behind it.
@@ -75,15 +76,6 @@ fn append(
     }
 }
 
-// With the settings of a 01.
-fn with_settings(stored: Stored, settings: Settings) -> Stored
-    ensures { (texts specials text words frequencies : List ℕ) → tables result texts specials text words frequencies ≡ with_settings (tables stored texts specials text words frequencies) settings }
-{
-    let mut next = stored;
-    next.settings = settings;
-    next
-}
-
 // With the special of a 02.
 fn with_special(
     stored: Stored,
@@ -96,12 +88,13 @@ fn with_special(
     ensures { (text words frequencies : List ℕ) → tables result texts.new specials.new text words frequencies ≡ with_special (tables stored texts.old specials.old text words frequencies) bytes.now from length }
 {
     let run = stored.specials;
-    let mut next = stored;
     if !fits(run, bytes, from, length, texts, specials) {
-        return next;
+        return stored;
     }
-    next.specials = append(run, bytes, from, length, texts, specials);
-    next
+    Stored {
+        specials: append(run, bytes, from, length, texts, specials),
+        ..stored
+    }
 }
 
 // Whether the word of a 03 is stored: none before it lacked room, nor does it.
@@ -117,7 +110,7 @@ fn has_room(
     ensures { result ≡ has_room (texts_of stored.words text.now words.now) frequencies.now stored.short bytes.now from length }
 {
     let run = stored.words;
-    !stored.short && (run.count < frequencies.len() && fits(run, bytes, from, length, text, words))
+    !stored.short && run.count < frequencies.len() && fits(run, bytes, from, length, text, words)
 }
 
 // With the word of a 03.
@@ -133,22 +126,25 @@ fn with_word(
 ) -> Stored
     ensures { (texts specials : List ℕ) → tables result texts specials text.new words.new frequencies.new ≡ with_word (tables stored texts specials text.old words.old frequencies.old) frequency bytes.now from length }
 {
-    let run = stored.words;
-    let mut next = stored;
     if !has_room(stored, bytes, from, length, text, words, frequencies) {
-        next.short = true;
-        return next;
+        return Stored {
+            short: true,
+            ..stored
+        };
     }
-    let k = run.count;
-    frequencies[k] = frequency;
-    next.words = append(run, bytes, from, length, text, words);
-    next
+    let run = stored.words;
+    frequencies[run.count] = frequency;
+    Stored {
+        words: append(run, bytes, from, length, text, words),
+        ..stored
+    }
 }
 
-// Stores what a frame says, whose bytes are lent.
+// Stores what a frame says, whose bytes are lent; a line that is none says nothing.
+#[tactic(auto, unfolding(crate::specs::Stored::store_of))]
 pub fn store(
     stored: Stored,
-    frame: Frame,
+    frame: Option<Frame>,
     bytes: &[u8],
     texts: &mut [u8],
     specials: &mut [u32],
@@ -159,18 +155,17 @@ pub fn store(
     ensures { tables result texts.new specials.new text.new words.new frequencies.new ≡ store_of (tables stored texts.old specials.old text.old words.old frequencies.old) frame bytes.now }
 {
     match frame {
-        Frame::Settings {
-            settings,
-            specials: _,
-        } => with_settings(stored, settings),
-        Frame::Special { from, length } => {
+        Some(Frame::Settings { settings, .. }) => Stored { settings, ..stored },
+        Some(Frame::Special { from, length }) => {
             with_special(stored, bytes, from, length, texts, specials)
         }
-        Frame::Word {
-            frequency,
-            from,
-            length,
-        } => with_word(
+        Some(
+            Frame::Word {
+                frequency,
+                from,
+                length,
+            },
+        ) => with_word(
             stored,
             frequency,
             bytes,
@@ -180,7 +175,6 @@ pub fn store(
             words,
             frequencies,
         ),
-        Frame::Count(_) => stored,
-        Frame::Bad => stored,
+        Some(Frame::Count(_)) | None => stored,
     }
 }

@@ -18,7 +18,7 @@ use Rattle.copied.specs.Put.{spans_from, PutsAll}
 use Rattle.copied.proofs.Stores.{sets_over}
 use Rattle.copied.proofs.Puts.{spans_long, spans_append}
 use Rattle.tokens.specs.Tokens.{Given, texts_of, tokens_of, scores_of, Room, Filled}
-use Rattle.tokens.specs.Steps.{Counting, Fits, PuttingAll}
+use Rattle.tokens.specs.Steps.{Fits, PuttingAll}
 use Rattle.tokens.proofs.Sums.{bytes_few}
 use Rattle.tokens.proofs.Lists.{first_long, joined_long}
 
@@ -40,12 +40,6 @@ both_put a b bytes tokens {bytes₁} {tokens₁} {bytes₂} {tokens₂} {next} {
     )
 
 module _ {texts specials text pieces : List ℕ} {scores : List Float} (g : Given texts specials text pieces scores) where
-  pub count_specials : Counting specials
-  count_specials = record { short = λ k l. (g.specials_good k l).short; few = let f = g.few_specials in omega arith }
-
-  pub count_pieces : Counting pieces
-  count_pieces = record { short = λ k l. (g.pieces_good k l).short; few = g.few_pieces }
-
   -- ---- how many tokens there are, of how many bytes
   pub counted : many specials + many pieces ≡ length (tokens_of texts specials text pieces)
   counted =
@@ -64,8 +58,8 @@ module _ {texts specials text pieces : List ℕ} {scores : List Float} (g : Give
 
   pub small : bytes_before specials (many specials) + bytes_before pieces (many pieces) ≤ 267452160
   small =
-      let a = bytes_few specials count_specials.short (many specials) (le_refl (many specials)) in
-      let b = bytes_few pieces count_pieces.short (many pieces) (le_refl (many pieces)) in
+      let a = bytes_few specials (λ k l. (g.specials_good k l).short) (many specials) (le_refl (many specials)) in
+      let b = bytes_few pieces (λ k l. (g.pieces_good k l).short) (many pieces) (le_refl (many pieces)) in
       let f = g.few_specials in
       let h = g.few_pieces in
       omega arith

@@ -10,30 +10,29 @@ use Rattle.laws.proofs.Outcome.{one_outcome}
 use Rattle.lattice.specs.Layout.{joined}
 use Rattle.copied.specs.Put.{spans_from}
 use Rattle.tokens.specs.Tokens.{tokens_of, scores_of, Room, Answers}
-use Rattle.tokens.specs.declared.Written.{Written}
-use Rattle.tokens.specs.declared.Written.TheVariants.{Tokens, NoRoom}
+use Rattle.std.specs.Prelude.{Option, Some, None}
 
 -- ---- two calls with the same lists lent answer alike, and leave the same
-pub record Same (r s : Written) (bytes tokens bytes' tokens' : List ℕ) (slots slots' : List Float) : Type 0 where
+pub record Same (r s : Option ℕ) (bytes tokens bytes' tokens' : List ℕ) (slots slots' : List Float) : Type 0 where
   pub answer : r ≡ s
   pub bytes_same : bytes ≡ bytes'
   pub spans_same : tokens ≡ tokens'
   pub scores_same : slots ≡ slots'
 
 pub no_second : (list : List (List ℕ)) (scores : List Float) (bytes tokens : List ℕ) (slots : List Float)
-    (bytes₁ tokens₁ : List ℕ) (slots₁ : List Float) (bytes₂ tokens₂ : List ℕ) (slots₂ : List Float) (r s : Written)
+    (bytes₁ tokens₁ : List ℕ) (slots₁ : List Float) (bytes₂ tokens₂ : List ℕ) (slots₂ : List Float) (r s : Option ℕ)
     → Answers list scores bytes tokens slots bytes₁ tokens₁ slots₁ r → Answers list scores bytes tokens slots bytes₂ tokens₂ slots₂ s
     → Same r s bytes₁ tokens₁ bytes₂ tokens₂ slots₁ slots₂
-no_second list scores bytes tokens slots bytes₁ tokens₁ slots₁ bytes₂ tokens₂ slots₂ (Tokens n) (Tokens m) p q =
+no_second list scores bytes tokens slots bytes₁ tokens₁ slots₁ bytes₂ tokens₂ slots₂ (Some n) (Some m) p q =
     record {
-      answer = ap Tokens (one_outcome p.count q.count);
+      answer = ap Some (one_outcome p.count q.count);
       bytes_same = one_outcome p.bytes_are q.bytes_are;
       spans_same = one_outcome p.spans_are q.spans_are;
       scores_same = one_outcome p.scores_are q.scores_are;
     }
-no_second list scores bytes tokens slots bytes₁ tokens₁ slots₁ bytes₂ tokens₂ slots₂ (Tokens n) NoRoom p q = absurd (q.no_room p.room)
-no_second list scores bytes tokens slots bytes₁ tokens₁ slots₁ bytes₂ tokens₂ slots₂ NoRoom (Tokens m) p q = absurd (p.no_room q.room)
-no_second list scores bytes tokens slots bytes₁ tokens₁ slots₁ bytes₂ tokens₂ slots₂ NoRoom NoRoom p q =
+no_second list scores bytes tokens slots bytes₁ tokens₁ slots₁ bytes₂ tokens₂ slots₂ (Some n) None p q = absurd (q.no_room p.room)
+no_second list scores bytes tokens slots bytes₁ tokens₁ slots₁ bytes₂ tokens₂ slots₂ None (Some m) p q = absurd (p.no_room q.room)
+no_second list scores bytes tokens slots bytes₁ tokens₁ slots₁ bytes₂ tokens₂ slots₂ None None p q =
     record {
       answer = refl;
       bytes_same = one_outcome p.same_bytes q.same_bytes;

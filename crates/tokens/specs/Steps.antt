@@ -4,11 +4,6 @@ use Rattle.spans.specs.Spans.{many, bytes}
 use Rattle.spans.specs.Check.{Good, AllGood}
 use Rattle.positions.specs.Gathered.{bytes_before}
 
--- ---- a count of bytes: few spans, each of at most 255 bytes, so that no sum overflows
-pub record Counting (spans : List ℕ) : Type 0 where
-  pub short : (k : ℕ) → k < many spans → bytes spans k ≤ 255
-  pub few : many spans ≤ 1048576
-
 -- ---- so many tokens of so many bytes fit
 pub record Fits (count long : ℕ) (octets tokens : List ℕ) (slots : List Float) : Type 0 where
   pub spans_fit : count ≤ length tokens / 2

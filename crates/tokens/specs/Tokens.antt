@@ -1,15 +1,13 @@
 -- The tokens that training answers, and the three slices that it writes them to. Document 01: "Specials come first, score 0.";
 -- NoRoom 4 is "result slots or bytes too few"; "A refusal changes no result slice"; "An accepted call keeps result and path
 -- slots it doesn't fill." Definitions only.
-use Rattle.std.specs.Prelude.{◌≡◌, false, List, ◌++◌, ℕ, ◌/◌, ◌≤◌, length, drop, replicate, pos, Float}
+use Rattle.std.specs.Prelude.{◌≡◌, false, List, ◌++◌, ℕ, ◌/◌, ◌≤◌, length, drop, replicate, pos, Float, Option, Some, None}
 use Rattle.std.specs.Float.{fin}
 use Rattle.spans.specs.Spans.{many, octets, first}
 use Rattle.spans.specs.Check.{AllGood}
 use Rattle.lattice.specs.Layout.{joined}
 use Rattle.lattice.specs.Written.{over}
 use Rattle.copied.specs.Put.{spans_from}
-use Rattle.tokens.specs.declared.Written.{Written}
-use Rattle.tokens.specs.declared.Written.TheVariants.{Tokens, NoRoom}
 
 -- ---- what a call asks: specials and pieces within document 01's bounds, and a score for each piece
 pub record Given (texts specials text pieces : List ℕ) (scores : List Float) : Type 0 where
@@ -53,6 +51,6 @@ pub record Untouched (list : List (List ℕ)) (bytes tokens : List ℕ) (slots :
   pub same_spans : tokens' ≡ tokens
   pub same_scores : slots' ≡ slots
 
-abbrev pub Answers : List (List ℕ) → List Float → List ℕ → List ℕ → List Float → List ℕ → List ℕ → List Float → Written → Type 0
-Answers list scores bytes tokens slots bytes' tokens' slots' (Tokens n) = Filled list scores bytes tokens slots bytes' tokens' slots' n
-Answers list scores bytes tokens slots bytes' tokens' slots' NoRoom = Untouched list bytes tokens slots bytes' tokens' slots'
+abbrev pub Answers : List (List ℕ) → List Float → List ℕ → List ℕ → List Float → List ℕ → List ℕ → List Float → Option ℕ → Type 0
+Answers list scores bytes tokens slots bytes' tokens' slots' (Some n) = Filled list scores bytes tokens slots bytes' tokens' slots' n
+Answers list scores bytes tokens slots bytes' tokens' slots' None = Untouched list bytes tokens slots bytes' tokens' slots'

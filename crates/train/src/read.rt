@@ -16,8 +16,8 @@ fn fill(rt: &HostRuntime, got: &mut [u8; 65536]) -> io::Result<usize>
     rt.stdin().read(got)
 }
 
-// Reads the input to its end, or to a read that fails. A proved loop ends, so this one counts its turns down from a number that no
-// run uses up.
+// Reads the input to its end, or to a read that fails. A proved loop ends, so this one counts its turns up to a number that no run
+// reaches. What has been read is promised also where a read fails, so it stands beside the Result.
 pub fn read_input(
     rt: &HostRuntime,
     texts: &mut [u8],
@@ -31,13 +31,10 @@ pub fn read_input(
     let mut got = [0u8; 65536];
     let mut line = [0u8; 531];
     let mut input = begun();
-    let mut turns = u64::MAX;
-    while turns > 0 {
+    for _turn in 0..u64::MAX {
         let n = match fill(rt, &mut got) {
             Ok(n) => n,
-            Err(e) => {
-                return (last(input), Err(e));
-            }
+            Err(e) => return (last(input), Err(e)),
         };
         if n == 0 {
             return (last(input), Ok(()));
@@ -52,7 +49,6 @@ pub fn read_input(
             words,
             frequencies,
         );
-        turns -= 1;
     }
     (last(input), Ok(()))
 }

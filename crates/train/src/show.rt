@@ -1,65 +1,28 @@
 // The answer as lines. They wait in a buffer until it is full or all is told.
-ghost use Rattle.std.specs.Prelude.{◌≤◌};
-
-use frames::Answer;
-use hexadecimal::Written;
+use frames::Summary;
 use refusal::Refusal;
-use slots::lesser;
 use std::io;
 
 // Writes what waits to standard output.
 fn send(rt: &impl Print, out: &[u8], waiting: usize) -> io::Result<()> {
-    let n = lesser(waiting, out.len());
+    let n = waiting.min(out.len());
     rt.write_all(&out[..n])
 }
 
-// Where a line ends that was written; or nothing waits.
-fn behind(written: Written) -> usize {
-    match written {
-        Written::Upto(next) => next,
-        Written::NoRoom => 0,
-    }
-}
-
-// Puts an 11 at the front.
-fn put_answer(out: &mut [u8], answer: Answer) -> usize {
-    behind(frames::write_answer(out, 0, answer))
-}
-
-// Puts a 12 behind what waits.
-fn put_token(
+// Puts a line behind what waits; where it has no room there, what waits is written first.
+fn put_line<F: Fn(&mut [u8], usize) -> Option<usize>>(
     rt: &impl Print,
     out: &mut [u8],
     waiting: usize,
-    id: u32,
-    score: f64,
-    text: &[u8],
-) -> io::Result<usize> {
-    match frames::write_token(out, waiting, id, score, text) {
-        Written::Upto(next) => Ok(next),
-        Written::NoRoom => {
-            send(rt, out, waiting)?;
-            Ok(behind(frames::write_token(out, 0, id, score, text)))
-        }
-    }
-}
-
-// Puts a 13 behind what waits.
-fn put_count(rt: &impl Print, out: &mut [u8], waiting: usize, tokens: u32) -> io::Result<usize> {
-    match frames::write_count(out, waiting, tokens) {
-        Written::Upto(next) => Ok(next),
-        Written::NoRoom => {
-            send(rt, out, waiting)?;
-            Ok(behind(frames::write_count(out, 0, tokens)))
-        }
-    }
-}
-
-// The same number, as a size.
-fn wide(x: u32) -> usize
-    ensures { result ≤ 4294967295 }
+    line: F,
+) -> io::Result<usize>
+    requires { F.IsAlwaysCallable line }
 {
-    x as usize
+    if let Some(next) = line(out, waiting) {
+        return Ok(next);
+    }
+    send(rt, out, waiting)?;
+    Ok(line(out, 0).unwrap_or(0))
 }
 
 // Puts the i-th token.
@@ -72,16 +35,18 @@ fn put_nth(
     scores: &[f64],
     i: u32,
 ) -> io::Result<usize> {
-    let k = wide(i);
+    let k = i as usize;
     if spans.len() / 2 <= k || scores.len() <= k {
         return Ok(waiting);
     }
-    let from = wide(spans[2 * k]);
-    let to = from + wide(spans[2 * k + 1]);
+    let from = spans[2 * k] as usize;
+    let to = from + spans[2 * k + 1] as usize;
     if bytes.len() < to {
         return Ok(waiting);
     }
-    put_token(rt, out, waiting, i, scores[k], &bytes[from..to])
+    put_line(rt, out, waiting, |out, at| {
+        frames::write_token(out, at, i, scores[k], &bytes[from..to])
+    })
 }
 
 // Puts the first so many tokens.
@@ -95,10 +60,8 @@ fn put_tokens(
     count: u32,
 ) -> io::Result<usize> {
     let mut next = waiting;
-    let mut i: u32 = 0;
-    while i < count {
+    for i in 0..count {
         next = put_nth(rt, out, next, bytes, spans, scores, i)?;
-        i += 1;
     }
     Ok(next)
 }
@@ -106,20 +69,20 @@ fn put_tokens(
 // Writes an answer, the tokens that it counts, and their count.
 pub fn tell(
     rt: &impl Print,
-    answer: Answer,
+    answer: Result<Summary, Refusal>,
     bytes: &[u8],
     spans: &[u32],
     scores: &[f64],
 ) -> io::Result<()> {
     let mut out = [0u8; 65536];
-    let first = put_answer(&mut out, answer);
-    let next = put_tokens(rt, &mut out, first, bytes, spans, scores, answer.tokens)?;
-    let last = put_count(rt, &mut out, next, answer.tokens)?;
+    let count = answer.map_or(0, |said| said.tokens);
+    let first = frames::write_answer(&mut out, 0, answer).unwrap_or(0);
+    let next = put_tokens(rt, &mut out, first, bytes, spans, scores, count)?;
+    let last = put_line(
+        rt,
+        &mut out,
+        next,
+        |out, at| frames::write_count(out, at, count),
+    )?;
     send(rt, &out, last)
-}
-
-// Writes a refusal.
-pub fn tell_refusal(rt: &impl Print, r: Refusal) -> io::Result<()> {
-    let answer = frames::refused(r);
-    tell(rt, answer, b"", &[0u32; 0], &[0.0; 0])
 }

@@ -1,5 +1,5 @@
 -- Training whole: what it is lent, when it is refused, and what it gives. Document 01's table, and port order 8 to 11. Definitions only.
-use Rattle.std.specs.Prelude.{◌≡◌, Bool, List, ℕ, ◌≤◌, length, take, replicate, Float}
+use Rattle.std.specs.Prelude.{◌≡◌, Result, Ok, Err, Bool, List, ℕ, ◌≤◌, length, take, replicate, Float}
 use Rattle.refusal.specs.declared.Refusal.{Refusal}
 use Rattle.ranking.specs.Seed.{Uncut, Seeded}
 use Rattle.listing.specs.Start as start
@@ -7,7 +7,6 @@ use Rattle.fresh.specs.Build as fresh
 use Rattle.make.specs.Make.{Results, Late, Made}
 use Rattle.finish.specs.Steps.{nought}
 use Rattle.make.specs.declared.Trained.{Trained}
-use Rattle.make.specs.declared.Trained.TheVariants.{Tokens, Refused}
 
 -- ---- what is lent to work in; crate start's Lent is what is lent to read, crate make's Results are the slices for the results
 pub record Work : Type 0 where
@@ -75,9 +74,9 @@ pub record Gives (x : start.Lent) (w : Work) (y y' : Results) (count required : 
   pub made : Made x w.keys w.ends (cache_slots w) y y' pieces required count over
 
 -- "A refusal changes no result slice"
-abbrev pub Answers : start.Lent → Work → Results → Results → Trained → Type 0
-Answers x w y y' (Tokens count required over) = Gives x w y y' count required over
-Answers x w y y' (Refused refusal) = Why x w y refusal × (y' ≡ y)
+abbrev pub Answers : start.Lent → Work → Results → Results → Result Trained Refusal → Type 0
+Answers x w y y' (Ok r) = Gives x w y y' r.tokens r.required r.stalled
+Answers x w y y' (Err refusal) = Why x w y refusal × (y' ≡ y)
 
 -- "Work slices hold zeros after every call, accepted or refused"
 pub record Zeros (w w' : Work) : Type 0 where

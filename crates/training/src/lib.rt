@@ -9,6 +9,7 @@ ghost use Rattle.listing.specs.Start.{count_of};
 ghost use Rattle.training.specs.Train.{Answers, Zeros};
 
 use make::Trained;
+use refusal::Refusal;
 use settings::Settings;
 
 // Trains on words of a text, and writes the tokens' bytes, their spans and their scores; or refuses.
@@ -40,7 +41,7 @@ pub fn train(
     bytes: &mut [u8],
     tokens: &mut [u32],
     token_scores: &mut [f64],
-) -> Trained
+) -> Result<Trained, Refusal>
     ensures answers { Answers (record { settings = settings; texts = texts.now; specials = specials.now; text = text.now; words = take (2 * (count_of words.now frequencies.now)) words.now; frequencies = take (count_of words.now frequencies.now) frequencies.now }) (record { kept = kept.old; counts = counts.old; table = table.old; chars = chars.old; places = places.old; order = order.old; work = work.old; ranks = ranks.old; pieces = pieces.old; tallies = tallies.old; scores = scores.old; expected = expected.old; keys = keys.old; ends = ends.old; offsets = offsets.old; starts = starts.old; ids = ids.old; spans = spans.old }) (record { bytes = bytes.old; tokens = tokens.old; scores = token_scores.old }) (record { bytes = bytes.new; tokens = tokens.new; scores = token_scores.new }) result }
     ensures zeros { Zeros (record { kept = kept.old; counts = counts.old; table = table.old; chars = chars.old; places = places.old; order = order.old; work = work.old; ranks = ranks.old; pieces = pieces.old; tallies = tallies.old; scores = scores.old; expected = expected.old; keys = keys.old; ends = ends.old; offsets = offsets.old; starts = starts.old; ids = ids.old; spans = spans.old }) (record { kept = kept.new; counts = counts.new; table = table.new; chars = chars.new; places = places.new; order = order.new; work = work.new; ranks = ranks.new; pieces = pieces.new; tallies = tallies.new; scores = scores.new; expected = expected.new; keys = keys.new; ends = ends.new; offsets = offsets.new; starts = starts.new; ids = ids.new; spans = spans.new }) }
 {

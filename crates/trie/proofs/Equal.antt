@@ -1,5 +1,6 @@
 -- Prefixes that are equal, and lists that have a prefix.
 -- Assumes nothing.
+use Rattle.std.specs.Prelude.{Option, Some, None}
 use mathlib.Core.Path.{◌≡◌, refl, ap, ◌∙◌, subst}
 use mathlib.Core.Logic.{◌⊎◌, inl, inr}
 use mathlib.Core.Bool.{Bool, true, false, cond}
@@ -10,8 +11,6 @@ use lib.Dec.{eqb}
 use lib.ListN.{length, get_or}
 use borrow.Author.Tests.{eq-eqb, eqb-true}
 use Rattle.laws.proofs.Choices.{cond_cases}
-use Rattle.places.specs.declared.Found.{Found}
-use Rattle.places.specs.declared.Found.TheVariants.{Node, Nothing}
 use Rattle.trie.specs.Prefixes.{back, equal, has, with, joined, Small}
 
 cons : {c d : ℕ} {q r : List ℕ} → c ≡ d → q ≡ r → c ∷ q ≡ d ∷ r
@@ -52,11 +51,11 @@ pub split : (b : Bool) → (b ≡ true) ⊎ (b ≡ false)
 split true = inl refl
 split false = inr refl
 
-pub either : (f : Found) → ((m : ℕ) × (f ≡ Node m)) ⊎ (f ≡ Nothing)
-either (Node m) = inl (m, refl)
-either Nothing = inr refl
+pub either : (f : Option ℕ) → ((m : ℕ) × (f ≡ Some m)) ⊎ (f ≡ None)
+either (Some m) = inl (m, refl)
+either None = inr refl
 
-pub distinct : {f : Found} {m : ℕ} → f ≡ Node m → f ≡ Nothing → ⊥
+pub distinct : {f : Option ℕ} {m : ℕ} → f ≡ Some m → f ≡ None → ⊥
 distinct e n = let z : ◌≡◌ {A = ℕ} 0 1 = cc in omega arith
 
 pub contrary : {b : Bool} → b ≡ true → b ≡ false → ⊥

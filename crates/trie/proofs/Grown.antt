@@ -1,5 +1,6 @@
 -- Each way out of `grow`, and the turns of the loop of `spell`, character by character.
 -- Assumes nothing.
+use Rattle.std.specs.Prelude.{Some, None}
 use mathlib.Core.Path.{◌≡◌, refl, sym, ap, ◌∙◌, subst}
 use mathlib.Core.Bool.{cond}
 use mathlib.Core.List.{List, ◌∷◌}
@@ -9,22 +10,20 @@ use native.Mathlib.Numerals.{add-one}
 use lib.ListN.{length, get_or, length-set}
 use Rattle.places.specs.Walk.{key_of}
 use Rattle.places.specs.Map.{inserted_in, put_in}
-use Rattle.places.specs.declared.Inserted.TheVariants.{Old, New, NoRoom}
+use Rattle.places.specs.declared.Inserted.TheVariants.{Old, New}
 use Rattle.places.proofs.Theorems.{key_some, room_none}
 use Rattle.places.proofs.Answers.{Made, answered, found_range, made_range}
 use Rattle.trie.specs.Prefixes.{back, joined}
 use Rattle.trie.specs.Trie.{is_node, Trie}
-use Rattle.trie.specs.Promised.{Next, Grew, Stuck, Grows, Path, Full, Reached}
-use Rattle.trie.specs.declared.Spelt.{Spelt as Answer}
-use Rattle.trie.specs.declared.Spelt.TheVariants.{Node as At, NoRoom as Unspelt}
+use Rattle.trie.specs.Promised.{Next, Grew, Stuck, Path, Full, Reached}
 use Rattle.trie.proofs.Equal.{back_small, joined_longer}
 use Rattle.trie.proofs.Nodes.{child_of}
 use Rattle.trie.proofs.Growing.{old_has, none_has, trie_old, trie_new, node_new}
 
 module _ (keys : List ℕ) (node c count : ℕ) (small : c < 4294967295) (after : List ℕ) (put : after ≡ put_in keys (key_of node c) count) where
-  pub grew_old : (m : ℕ) → Old m ≡ inserted_in keys (key_of node c) count → Grew keys node c count after m count
+  pub grew_old : (m : ℕ) → Some (Old m) ≡ inserted_in keys (key_of node c) count → Grew keys node c count after m count
   grew_old m e =
-      let (f, g) = answered keys (key_of node c) count (Old m) e in
+      let (f, g) = answered keys (key_of node c) count (Some (Old m)) e in
       let r = found_range keys (key_of node c) (key_some node c) f in
       let a : keys ≡ after = sym (put ∙ g) in
       record {
@@ -38,9 +37,9 @@ module _ (keys : List ℕ) (node c count : ℕ) (small : c < 4294967295) (after 
         });
       }
 
-  module _ (m : ℕ) (e : New m ≡ inserted_in keys (key_of node c) count) where
+  module _ (m : ℕ) (e : Some (New m) ≡ inserted_in keys (key_of node c) count) where
     made : Made keys (key_of node c) count m
-    made = answered keys (key_of node c) count (New m) e
+    made = answered keys (key_of node c) count (Some (New m)) e
 
     pub grew_fits : count + 2 ≤ length keys / 2
     grew_fits = made.room
@@ -64,9 +63,9 @@ module _ (keys : List ℕ) (node c count : ℕ) (small : c < 4294967295) (after 
               });
         }
 
-  pub grew_none : NoRoom ≡ inserted_in keys (key_of node c) count → Stuck keys node c count after
+  pub grew_none : None ≡ inserted_in keys (key_of node c) count → Stuck keys node c count after
   grew_none e =
-      let (f, g) = answered keys (key_of node c) count NoRoom e in
+      let (f, g) = answered keys (key_of node c) count None e in
       record {
         same = put ∙ g;
         new = λ q ends prefixes pieces t n s l.
@@ -74,13 +73,6 @@ module _ (keys : List ℕ) (node c count : ℕ) (small : c < 4294967295) (after 
             let x = room_none keys t.entries t.holds (key_of node c) (key_some node c) (ap (inserted_in keys (key_of node c)) (sym u) ∙ sym e) in
             (sym (t.known c q (small, s)) ∙ ap is_node (child_of keys c q l ∙ f), omega (arith, x.1, t.count));
       }
-
--- what `grow` answered
-pub grows_at : (keys : List ℕ) (node c count : ℕ) (after : List ℕ) {m made : ℕ} {r : Answer} → r ≡ At m made → Grows keys node c count after r → Grew keys node c count after m made
-grows_at keys node c count after e g = subst (Grows keys node c count after) e g
-
-pub grows_not : (keys : List ℕ) (node c count : ℕ) (after : List ℕ) {r : Answer} → r ≡ Unspelt → Grows keys node c count after r → Stuck keys node c count after
-grows_not keys node c count after e g = subst (Grows keys node c count after) e g
 
 -- How far the loop of `spell` has come.
 pub record Spelt (keys chars : List ℕ) (count : ℕ) (after : List ℕ) (k made node : ℕ) : Type 0 where

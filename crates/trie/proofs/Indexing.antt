@@ -1,24 +1,23 @@
 -- The trie of a whole list: slices of zeros, one piece more, and the turns of the loop of `fill`.
 -- Assumes nothing.
+use Rattle.std.specs.Prelude.{Option, Some, None}
 use mathlib.Core.Path.{◌≡◌, refl, sym, ap, ◌∙◌, subst}
 use mathlib.Core.List.{List, []}
 use Prim.Native.Nat.{ℕ, zero, suc, ◌+◌, ◌-◌, ◌≤◌, ◌<◌}
 use native.Mathlib.Numerals.{add-one}
 use native.Mathlib.Omega.{arith}
-use lib.ListN.{length, take, drop, length-replicate}
+use lib.ListN.{length, length-replicate}
 use Rattle.utf8.specs.Chars.{chars_of}
-use Rattle.spans.specs.Spans.{many, from, bytes, octets, chars_at}
+use Rattle.spans.specs.Spans.{many, octets, chars_at}
 use Rattle.spans.specs.Check.{AllGood}
 use Rattle.places.specs.Entries.{zeros}
 use Rattle.trie.specs.Prefixes.{joined, prefixes_of}
 use Rattle.trie.specs.Listed.{newest_of}
 use Rattle.trie.specs.Trie.{Trie}
-use Rattle.trie.specs.Promised.{Adding, AddsTo, Adds}
-use Rattle.trie.specs.Index.{Indexing, Index, Indexes, Upto, Putting, Puts}
+use Rattle.trie.specs.Promised.{AddsTo, Adds}
+use Rattle.trie.specs.Index.{Indexing, Index, Indexes, Upto, Puts}
 use Rattle.trie.specs.declared.Added.{Added}
-use Rattle.trie.specs.declared.Added.TheVariants.{New, Again, NoRoom as Full}
-use Rattle.trie.specs.declared.Indexed.{Indexed}
-use Rattle.trie.specs.declared.Indexed.TheVariants.{Nodes, NoRoom}
+use Rattle.trie.specs.declared.Added.TheVariants.{New, Again}
 use Rattle.trie.proofs.Equal.{joined_longer}
 use Rattle.trie.proofs.Theorems.{trie_none}
 use Rattle.trie.proofs.Same.{length_newest}
@@ -41,9 +40,9 @@ cleared keys₀ ends₀ text pieces keys ends x a b two =
     (record { few = omega (arith, x.few); level = t.level; ids = x.ids; inside = x.inside; utf8 = x.utf8 }, t)
 
 -- what is said of slices of one length is said of those they were
-pub indexes_long : (text pieces keys₀ keys keys' ends' : List ℕ) (r : Indexed) → length keys ≡ length keys₀ → Indexes text pieces keys keys' ends' r → Indexes text pieces keys₀ keys' ends' r
-indexes_long text pieces keys₀ keys keys' ends' (Nodes n) e x = record { long = x.long ∙ e; trie = x.trie; counted = x.counted }
-indexes_long text pieces keys₀ keys keys' ends' NoRoom e x = omega arith
+pub indexes_long : (text pieces keys₀ keys keys' ends' : List ℕ) (r : Option ℕ) → length keys ≡ length keys₀ → Indexes text pieces keys keys' ends' r → Indexes text pieces keys₀ keys' ends' r
+indexes_long text pieces keys₀ keys keys' ends' (Some n) e x = record { long = x.long ∙ e; trie = x.trie; counted = x.counted }
+indexes_long text pieces keys₀ keys keys' ends' None e x = omega arith
 
 -- more pieces have no fewer prefixes
 module _ (f : ℕ → List ℕ) where
@@ -70,41 +69,31 @@ module _ (f : ℕ → List ℕ) where
       let y : length (prefixes_of (newest_of f (n - k + k))) ≡ length (prefixes_of (newest_of f n)) = ap (λ (i : ℕ). length (prefixes_of (newest_of f i))) e in
       omega (arith, more_longer k (n - k))
 
--- the bytes of piece k as they are cut out of the text
-module _ (text pieces : List ℕ) (k low long : ℕ) (a : low ≡ from pieces k) (b : long ≡ bytes pieces k) where
-  cut : take (low + long - low) (drop low text) ≡ octets text pieces k
-  cut =
-      let e : low + long - low ≡ bytes pieces k = omega arith in
-      ap (λ (n : ℕ). take n (drop low text)) e ∙ ap (λ (n : ℕ). take (bytes pieces k) (drop n text)) a
-
-  pub cut_adding : {keys ends classes : List ℕ} → Putting keys ends classes text pieces k → Adding keys ends classes (take (low + long - low) (drop low text)) k
-  cut_adding {keys} {ends} {classes} x =
-      subst (λ (l : List ℕ). Adding keys ends classes l k) (sym cut) (record {
-        spelling = record { few = x.indexing.few; right = x.right; utf8 = x.indexing.utf8 k x.within };
-        level = x.indexing.level;
-        few = omega (arith, x.within, x.indexing.ids);
-      })
-
-  pub cut_inside : {keys ends classes : List ℕ} → Putting keys ends classes text pieces k → low + long ≤ length text
-  cut_inside x = omega (arith, x.indexing.inside k x.within)
-
+-- piece k, by its bytes
+module _ (text pieces : List ℕ) (k : ℕ) {piece : List ℕ} (is : piece ≡ octets text pieces k) where
   -- by each answer of `add`, one piece more
-  module _ (keys ends : List ℕ) (count : ℕ) (keys' ends' : List ℕ) {r : Added} (adds : Adds keys ends (chars_of (take (low + long - low) (drop low text))) k count keys' ends' r) where
-    added : {r' : Added} → r ≡ r' → (u : Upto keys ends text pieces k count)
-        → AddsTo keys ends (chars_at text pieces k) count keys' ends' r' (prefixes_of (newest_of (chars_at text pieces) k)) (newest_of (chars_at text pieces) k)
-    added e u =
-        subst (λ (d : Added). AddsTo keys ends (chars_at text pieces k) count keys' ends' d (prefixes_of (newest_of (chars_at text pieces) k)) (newest_of (chars_at text pieces) k)) e
-        (subst (λ (l : List ℕ). AddsTo keys ends (chars_of l) count keys' ends' r (prefixes_of (newest_of (chars_at text pieces) k)) (newest_of (chars_at text pieces) k)) cut
-        (adds (prefixes_of (newest_of (chars_at text pieces) k)) (newest_of (chars_at text pieces) k) u.trie u.counted (sym (length_newest (chars_at text pieces) k))))
+  module _ (keys ends : List ℕ) (count : ℕ) (keys' ends' : List ℕ) where
+    added : (r : Option Added) → Adds keys ends (chars_of piece) k count keys' ends' r → (u : Upto keys ends text pieces k count)
+        → AddsTo keys ends (chars_at text pieces k) count keys' ends' r (prefixes_of (newest_of (chars_at text pieces) k)) (newest_of (chars_at text pieces) k)
+    added r adds u =
+        subst (λ (l : List ℕ). AddsTo keys ends (chars_of l) count keys' ends' r (prefixes_of (newest_of (chars_at text pieces) k)) (newest_of (chars_at text pieces) k)) is
+        (adds (prefixes_of (newest_of (chars_at text pieces) k)) (newest_of (chars_at text pieces) k) u.trie u.counted (sym (length_newest (chars_at text pieces) k)))
 
-    pub put_new : {made : ℕ} → r ≡ New made → Puts keys ends text pieces k count keys' ends' (Nodes made)
-    put_new e u = let m = added e u in record { trie = m.trie; counted = m.counted }
+    module _ {r : Added} (adds : Adds keys ends (chars_of piece) k count keys' ends' (Some r)) where
+      named : {r' : Added} → r ≡ r' → (u : Upto keys ends text pieces k count)
+          → AddsTo keys ends (chars_at text pieces k) count keys' ends' (Some r') (prefixes_of (newest_of (chars_at text pieces) k)) (newest_of (chars_at text pieces) k)
+      named e u =
+          subst (λ (d : Added). AddsTo keys ends (chars_at text pieces k) count keys' ends' (Some d) (prefixes_of (newest_of (chars_at text pieces) k)) (newest_of (chars_at text pieces) k)) e
+          (added (Some r) adds u)
 
-    pub put_again : {i made : ℕ} → r ≡ Again i made → Puts keys ends text pieces k count keys' ends' (Nodes made)
-    put_again e u = let m = added e u in record { trie = m.trie; counted = m.counted }
+      pub put_new : {made : ℕ} → r ≡ New made → Puts keys ends text pieces k count keys' ends' (Some made)
+      put_new e u = let m = named e u in record { trie = m.trie; counted = m.counted }
 
-    pub put_full : r ≡ Full → Puts keys ends text pieces k count keys' ends' NoRoom
-    put_full e u = (added e u).0.over
+      pub put_again : {i made : ℕ} → r ≡ Again i made → Puts keys ends text pieces k count keys' ends' (Some made)
+      put_again e u = let m = named e u in record { trie = m.trie; counted = m.counted }
+
+    pub put_full : Adds keys ends (chars_of piece) k count keys' ends' None → Puts keys ends text pieces k count keys' ends' None
+    put_full adds u = (added None adds u).0.over
 
 -- How far the loop of `fill` has come.
 pub record Filled (keys₀ text pieces keys ends : List ℕ) (k count : ℕ) : Type 0 where
@@ -126,10 +115,9 @@ module _ {keys₀ text pieces keys ends : List ℕ} {k count : ℕ} (f : Filled 
       record { long = f.long; trie = u.trie; counted = u.counted }
 
   module _ (l : k < many pieces) (keys' ends' : List ℕ) where
-    pub filled_more : {r : Indexed} {n : ℕ} → r ≡ Nodes n → length keys' ≡ length keys → Puts keys ends text pieces k count keys' ends' r → Filled keys₀ text pieces keys' ends' (k + 1) n
-    filled_more {r} {n} e a q =
-        let p = subst (Puts keys ends text pieces k count keys' ends') e q in
-        record { long = a ∙ f.long; near = omega arith; upto = subst (λ (i : ℕ). Upto keys' ends' text pieces i n) (sym (add-one k)) (p f.upto) }
+    pub filled_more : (n : ℕ) → length keys' ≡ length keys → Puts keys ends text pieces k count keys' ends' (Some n) → Filled keys₀ text pieces keys' ends' (k + 1) n
+    filled_more n e p =
+        record { long = e ∙ f.long; near = omega arith; upto = subst (λ (i : ℕ). Upto keys' ends' text pieces i n) (sym (add-one k)) (p f.upto) }
 
-    pub filled_full : {r : Indexed} → r ≡ NoRoom → Puts keys ends text pieces k count keys' ends' r → Indexes text pieces keys₀ keys' ends' NoRoom
-    filled_full e q = let x = subst (Puts keys ends text pieces k count keys' ends') e q f.upto in omega (arith, f.long, prefixes_longer (chars_at text pieces) (suc k) (many pieces) l)
+    pub filled_full : Puts keys ends text pieces k count keys' ends' None → Indexes text pieces keys₀ keys' ends' None
+    filled_full p = let x = p f.upto in omega (arith, f.long, prefixes_longer (chars_at text pieces) (suc k) (many pieces) l)

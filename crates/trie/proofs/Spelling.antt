@@ -1,14 +1,14 @@
 -- How far the loop of `spell` has come in the bytes of a piece, and each way out of it.
 -- Assumes nothing.
+use Rattle.std.specs.Prelude.{None}
 use mathlib.Core.Path.{◌≡◌, sym, subst}
 use mathlib.Core.List.{List}
 use Prim.Native.Nat.{ℕ, ◌+◌, ◌≤◌, ◌<◌}
 use native.Mathlib.Omega.{arith}
 use lib.ListN.{length, get_or, drop}
 use Rattle.utf8.specs.Encode.{Scalar, Spells}
-use Rattle.utf8.specs.Decode.{decoded}
+use Rattle.utf8.specs.Decode.{decoded, character}
 use Rattle.utf8.specs.Chars.{chars_of}
-use Rattle.utf8.specs.declared.Decoded.TheVariants.{Char, Bad}
 use Rattle.utf8.proofs.Reading.{Reading, Read, reading_none, reading_more, reading_bad, reading_end, scalars_at}
 use Rattle.trie.specs.Trie.{Trie}
 use Rattle.trie.specs.Promised.{Grew, Stuck, Full, Reached, Spelling}
@@ -27,17 +27,17 @@ pub record Far (keys piece : List ℕ) (count : ℕ) (after : List ℕ) (at made
   pub reading : Reading piece at k
   pub spelt : Spelt keys (chars_of piece) count after k made node
 
-pub far_none : {keys classes piece : List ℕ} (count : ℕ) → Spelling keys classes piece → Far keys piece count keys 0 count 0
-far_none {keys} {classes} {piece} count x = record { k = 0; reading = reading_none x.utf8; spelt = spelt_none keys (chars_of piece) count }
+pub far_none : {keys piece : List ℕ} (count : ℕ) → Spelling keys piece → Far keys piece count keys 0 count 0
+far_none {keys} {piece} count x = record { k = 0; reading = reading_none x.utf8; spelt = spelt_none keys (chars_of piece) count }
 
-module _ {keys classes piece : List ℕ} {count : ℕ} {after : List ℕ} {at made node : ℕ} (x : Spelling keys classes piece) (f : Far keys piece count after at made node) where
+module _ {keys piece : List ℕ} {count : ℕ} {after : List ℕ} {at made node : ℕ} (x : Spelling keys piece) (f : Far keys piece count after at made node) where
   pub far_all : length piece ≤ at → Reached keys (chars_of piece) count after node made
   far_all l = spelt_all (chars_small x.utf8) f.spelt (omega (arith, reading_end f.reading l))
 
-  pub far_bad : at < length piece → decoded (drop at piece) ≡ Bad → ⊥
+  pub far_bad : at < length piece → decoded (drop at piece) ≡ None → ⊥
   far_bad l e = reading_bad f.reading l e
 
-  module _ {c w : ℕ} (e : decoded (drop at piece) ≡ Char c w) where
+  module _ {c w : ℕ} (e : decoded (drop at piece) ≡ character c w) where
     read : Read piece at f.k c w
     read = reading_more f.reading e
 

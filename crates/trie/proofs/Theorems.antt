@@ -1,5 +1,6 @@
 -- The trie in document 01's words: what its nodes are, when there is no room, and which piece a walk finds.
 -- Assumes nothing.
+use Rattle.std.specs.Prelude.{Option, Some, None}
 use mathlib.Core.Path.{◌≡◌, refl, sym, ap, ◌∙◌, subst}
 use mathlib.Core.Logic.{◌⊎◌, inl, inr, ⊎_elim}
 use mathlib.Core.Bool.{true, cond}
@@ -14,8 +15,6 @@ use Rattle.laws.proofs.Choices.{cond_cases}
 use Rattle.places.specs.Walk.{key_of}
 use Rattle.places.specs.Map.{found_in}
 use Rattle.places.specs.Entries.{zeros}
-use Rattle.places.specs.declared.Found.{Found}
-use Rattle.places.specs.declared.Found.TheVariants.{Node, Nothing}
 use Rattle.places.proofs.Filled.{zeros_at}
 use Rattle.places.proofs.Theorems.{key_some, holds_none, absent_unfound}
 use Rattle.trie.specs.Prefixes.{back, whole, equal, has, with, joined, prefixes_of, id_of}
@@ -24,21 +23,19 @@ use Rattle.trie.specs.Trie.{step, node_at, is_node, Trie}
 use Rattle.trie.specs.Promised.{More, AddsTo}
 use Rattle.trie.specs.Index.{Index, Indexes}
 use Rattle.trie.specs.declared.Added.{Added}
-use Rattle.trie.specs.declared.Added.TheVariants.{New, Again, NoRoom}
-use Rattle.trie.specs.declared.Indexed.{Indexed}
-use Rattle.trie.specs.declared.Indexed.TheVariants.{Nodes, NoRoom as Unindexed}
+use Rattle.trie.specs.declared.Added.TheVariants.{New, Again}
 use Rattle.trie.proofs.Equal.{equal_true, equal_self, equal_same, has_tail, split, either, distinct, contrary, with_has}
 use Rattle.trie.proofs.Nodes.{child_of}
 use Rattle.trie.proofs.Walked.{step_on, step_off}
 
 -- Zero slices hold no piece, if the root is at most half of the places.
 module _ (n : ℕ) where
-  no_child : (y c : ℕ) → found_in (zeros n) (key_of y c) ≡ Nothing
+  no_child : (y c : ℕ) → found_in (zeros n) (key_of y c) ≡ None
   no_child y c = absent_unfound (zeros n) [] (holds_none n) (key_of y c) (key_some y c) tt
 
-  no_node : (c : ℕ) (q : List ℕ) → node_at (zeros n) (c ∷ q) ≡ Nothing
+  no_node : (c : ℕ) (q : List ℕ) → node_at (zeros n) (c ∷ q) ≡ None
   no_node c q =
-      ⊎_elim (λ (y, e). child_of (zeros n) c q e ∙ no_child y c) (λ e. ap (λ (f : Found). step (zeros n) f c) e) (either (node_at (zeros n) q))
+      ⊎_elim (λ (y, e). child_of (zeros n) c q e ∙ no_child y c) (λ e. ap (λ (f : Option ℕ). step (zeros n) f c) e) (either (node_at (zeros n) q))
 
   pub trie_none : 1 ≤ n / 2 → Trie (zeros n) (zeros n) [] []
   trie_none h =
@@ -166,37 +163,37 @@ id_last (w ∷ rest) v =
 -- There is no room exactly where the distinct non-empty prefixes with those of the new piece, and the root, are more than half
 -- of the places.
 module _ (keys ends chars : List ℕ) (id count : ℕ) (keys' ends' : List ℕ) (pieces : List (List ℕ)) where
-  abbrev Answers : Added → Type 0
+  abbrev Answers : Option Added → Type 0
   Answers r = AddsTo keys ends chars count keys' ends' r (prefixes_of pieces) pieces
 
-  pub no_room : Answers NoRoom → length keys / 2 < length (prefixes_of (chars ∷ pieces)) + 1
+  pub no_room : Answers None → length keys / 2 < length (prefixes_of (chars ∷ pieces)) + 1
   no_room a = a.0.over
 
   fits : (earlier made : ℕ) → More keys chars keys' ends' earlier made (prefixes_of pieces) pieces → length (prefixes_of (chars ∷ pieces)) + 1 ≤ length keys / 2
   fits earlier made m = let l = m.long in subst (λ (n : ℕ). length (prefixes_of (chars ∷ pieces)) + 1 ≤ n / 2) l m.trie.room
 
-  pub room_new : (made : ℕ) → Answers (New made) → length (prefixes_of (chars ∷ pieces)) + 1 ≤ length keys / 2
+  pub room_new : (made : ℕ) → Answers (Some (New made)) → length (prefixes_of (chars ∷ pieces)) + 1 ≤ length keys / 2
   room_new made m = fits 0 made m
 
-  pub room_again : (i made : ℕ) → Answers (Again i made) → length (prefixes_of (chars ∷ pieces)) + 1 ≤ length keys / 2
+  pub room_again : (i made : ℕ) → Answers (Some (Again i made)) → length (prefixes_of (chars ∷ pieces)) + 1 ≤ length keys / 2
   room_again i made m = fits (i + 1) made m
 
   -- Of a piece that is not empty it is told whether an earlier one is the same, and the last that is.
-  pub told_new : (made : ℕ) → Answers (New made) → 0 < length chars → (j : ℕ) → Is pieces j chars → ⊥
+  pub told_new : (made : ℕ) → Answers (Some (New made)) → 0 < length chars → (j : ℕ) → Is pieces j chars → ⊥
   told_new made m l j s = (subst (Last pieces chars) (sym (m.told l)) (id_last pieces chars)).later j (omega arith) s
 
-  pub told_again : (i made : ℕ) → Answers (Again i made) → 0 < length chars → Last pieces chars (i + 1)
+  pub told_again : (i made : ℕ) → Answers (Some (Again i made)) → 0 < length chars → Last pieces chars (i + 1)
   told_again i made m l = subst (Last pieces chars) (sym (m.told l)) (id_last pieces chars)
 
 -- At each step of a walk stands the last piece that is spelt by the characters so far; and where the walk stops, no piece is
 -- spelt by more of them.
-module _ {keys ends : List ℕ} {prefixes pieces : List (List ℕ)} (t : Trie keys ends prefixes pieces) (w : List ℕ) (small : (i : ℕ) → i < length w → get_or w i 0 < 4294967295) {k node : ℕ} (leads : node_at keys (back w k) ≡ Node node) (l : k < length w) where
-  pub step_last : {m : ℕ} → found_in keys (key_of node (get_or w k 0)) ≡ Node m → Last pieces (take (suc k) w) (get_or ends (m - 1) 0)
+module _ {keys ends : List ℕ} {prefixes pieces : List (List ℕ)} (t : Trie keys ends prefixes pieces) (w : List ℕ) (small : (i : ℕ) → i < length w → get_or w i 0 < 4294967295) {k node : ℕ} (leads : node_at keys (back w k) ≡ Some node) (l : k < length w) where
+  pub step_last : {m : ℕ} → found_in keys (key_of node (get_or w k 0)) ≡ Some m → Last pieces (take (suc k) w) (get_or ends (m - 1) 0)
   step_last {m} f =
       let e : get_or ends (m - 1) 0 ≡ id_of pieces (whole (take (suc k) w)) = (step_on t w small leads l f).names ∙ ap (id_of pieces) (back_whole w (suc k) (omega arith)) in
       subst (Last pieces (take (suc k) w)) (sym e) (id_last pieces (take (suc k) w))
 
-  pub step_end : found_in keys (key_of node (get_or w k 0)) ≡ Nothing → (i j : ℕ) → k ≤ j → j < length w → Is pieces i (take (suc j) w) → ⊥
+  pub step_end : found_in keys (key_of node (get_or w k 0)) ≡ None → (i j : ℕ) → k ≤ j → j < length w → Is pieces i (take (suc j) w) → ⊥
   step_end f i j h m s =
       let e : id_of pieces (whole (take (suc j) w)) ≡ 0 = ap (id_of pieces) (sym (back_whole w (suc j) (omega arith))) ∙ step_off t w small leads l f j h m in
       (subst (Last pieces (take (suc j) w)) e (id_last pieces (take (suc j) w))).later i (omega arith) s
@@ -207,11 +204,11 @@ pub index_room : {text pieces keys keys' ends' : List ℕ} {n : ℕ} → Index t
 index_room {text} {pieces} x = subst (λ (m : ℕ). length (prefixes_of (newest text pieces)) + 1 ≤ m / 2) x.long x.trie.room
 
 -- No second answer fits. What the slices then hold is work: it is said what it means, and not what it is.
-pub one_index : (text pieces keys keys' ends' keys'' ends'' : List ℕ) (r s : Indexed) → Indexes text pieces keys keys' ends' r → Indexes text pieces keys keys'' ends'' s → r ≡ s
-one_index text pieces keys keys' ends' keys'' ends'' (Nodes n) (Nodes m) x y = ap (λ (i : ℕ). Nodes i) (x.counted ∙ sym y.counted)
-one_index text pieces keys keys' ends' keys'' ends'' (Nodes n) Unindexed x y = absurd (lt_irrefl (length keys / 2) (omega (arith, index_room x)))
-one_index text pieces keys keys' ends' keys'' ends'' Unindexed (Nodes m) x y = absurd (lt_irrefl (length keys / 2) (omega (arith, index_room y)))
-one_index text pieces keys keys' ends' keys'' ends'' Unindexed Unindexed x y = refl
+pub one_index : (text pieces keys keys' ends' keys'' ends'' : List ℕ) (r s : Option ℕ) → Indexes text pieces keys keys' ends' r → Indexes text pieces keys keys'' ends'' s → r ≡ s
+one_index text pieces keys keys' ends' keys'' ends'' (Some n) (Some m) x y = ap (λ (i : ℕ). Some i) (x.counted ∙ sym y.counted)
+one_index text pieces keys keys' ends' keys'' ends'' (Some n) None x y = absurd (lt_irrefl (length keys / 2) (omega (arith, index_room x)))
+one_index text pieces keys keys' ends' keys'' ends'' None (Some m) x y = absurd (lt_irrefl (length keys / 2) (omega (arith, index_room y)))
+one_index text pieces keys keys' ends' keys'' ends'' None None x y = refl
 
 -- An empty spelling is no edge: no step is its own, for each is one character or more; and an empty piece changes no other
 -- spelling's.

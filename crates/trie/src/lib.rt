@@ -23,168 +23,119 @@ ghost use Rattle.trie.specs.Promised.{Grows, Spelling, Reaches, Adding, Adds};
 ghost use Rattle.trie.specs.Index.{Putting, Puts, Indexing, Indexes};
 
 use places::Inserted;
-use slots::{clear_keys, clear_numbers};
-use utf8::{Decoded, decode_by};
+use utf8::decode;
 
-// The node of a spelling, and how many nodes there are besides the root; or there was no room.
-#[derive(Clone, Copy)]
-enum Spelt {
-    Node { node: u32, count: usize },
-    NoRoom,
+// The node of a spelling, and how many nodes there are besides the root.
+#[derive(Clone, Copy, Debug, PartialEq, Eq)]
+struct Spelt {
+    node: u32,
+    count: usize,
 }
 
 // How many nodes there are besides the root after a piece whose spelling is new; or the same, and the earlier piece that has
-// the spelling; or there was no room.
-#[derive(Clone, Copy)]
+// the spelling.
+#[derive(Clone, Copy, Debug, PartialEq, Eq)]
 pub enum Added {
     New(usize),
     Again { earlier: u32, count: usize },
-    NoRoom,
 }
 
-// How many nodes there are besides the root after all pieces; or there was no room.
-#[derive(Clone, Copy)]
-pub enum Indexed {
-    Nodes(usize),
-    NoRoom,
-}
-
-// The node one character on, made where there is none.
-fn grow(keys: &mut [u64], node: u32, character: u32, count: usize) -> Spelt
+// The node one character on, made where there is none and there is room.
+fn grow(keys: &mut [u64], node: u32, character: u32, count: usize) -> Option<Spelt>
     requires { (length keys.old ≤ 4294967295) × (character < 4294967295) }
     ensures { Grows keys.old node character count keys.new result }
 {
-    match places::insert(keys, node, character, count) {
-        Inserted::Old(m) => Spelt::Node { node: m, count },
-        Inserted::New(m) => Spelt::Node {
+    match places::insert(keys, node, character, count)? {
+        Inserted::Old(m) => Some(Spelt { node: m, count }),
+        Inserted::New(m) => Some(Spelt {
             node: m,
             count: count + 1,
-        },
-        Inserted::NoRoom => Spelt::NoRoom,
+        }),
     }
 }
 
 // The node of a spelling, made where there is none, with those of its prefixes.
-fn spell(keys: &mut [u64], classes: &[u8; 256], piece: &[u8], count: usize) -> Spelt
-    requires { Spelling keys.old classes.now piece.now }
+fn spell(keys: &mut [u64], piece: &[u8], count: usize) -> Option<Spelt>
+    requires { Spelling keys.old piece.now }
     ensures { Reaches keys.old (chars_of piece.now) count keys.new result }
 {
-    let mut node: u32 = 0;
-    let mut made = count;
+    let mut spelt = Spelt { node: 0, count };
     let mut at = 0;
+    // A step is as wide as its character.
     while at < piece.len() {
-        match decode_by(classes, piece, at) {
-            Decoded::Char { code, width } => {
-                match grow(keys, node, code, made) {
-                    Spelt::Node { node: m, count: n } => {
-                        node = m;
-                        made = n;
-                    }
-                    Spelt::NoRoom => {
-                        return Spelt::NoRoom;
-                    }
-                }
-                at += width;
-            }
-            // A piece is UTF-8, so this never is.
-            Decoded::Bad => {
-                return Spelt::NoRoom;
-            }
-        }
+        // A piece is UTF-8, so a character stands here.
+        let found = decode(piece, at)?;
+        spelt = grow(keys, spelt.node, found.code, spelt.count)?;
+        at += found.width;
     }
-    Spelt::Node { node, count: made }
+    Some(spelt)
 }
 
-// Adds a piece, whose id is the number of pieces before it.
-pub fn add(
-    keys: &mut [u64],
-    ends: &mut [u32],
-    classes: &[u8; 256],
-    piece: &[u8],
-    id: u32,
-    count: usize,
-) -> Added
-    requires { Adding keys.old ends.old classes.now piece.now id }
+// Adds a piece, whose id is the number of pieces before it, if there is room.
+pub fn add(keys: &mut [u64], ends: &mut [u32], piece: &[u8], id: u32, count: usize) -> Option<Added>
+    requires { Adding keys.old ends.old piece.now id }
     ensures { Adds keys.old ends.old (chars_of piece.now) id count keys.new ends.new result }
 {
-    if piece.len() == 0 {
-        return Added::New(count);
+    if piece.is_empty() {
+        return Some(Added::New(count));
     }
-    match spell(keys, classes, piece, count) {
-        Spelt::Node { node, count: made } => {
-            let p = node as usize - 1;
-            let before = ends[p];
-            ends[p] = id + 1;
-            if before == 0 {
-                return Added::New(made);
-            }
-            Added::Again {
-                earlier: before - 1,
-                count: made,
-            }
-        }
-        Spelt::NoRoom => Added::NoRoom,
+    let spelt = spell(keys, piece, count)?;
+    let p = spelt.node as usize - 1;
+    let before = ends[p];
+    ends[p] = id + 1;
+    if before == 0 {
+        return Some(Added::New(spelt.count));
     }
+    Some(Added::Again {
+        earlier: before - 1,
+        count: spelt.count,
+    })
 }
 
-// Adds piece k of a list to the trie of those before it. That a spelling stands twice is told elsewhere.
+// Adds piece k of a list to the trie of those before it, and answers how many nodes there are then besides the root. That a
+// spelling stands twice is told elsewhere.
 fn put(
     keys: &mut [u64],
     ends: &mut [u32],
-    classes: &[u8; 256],
     text: &[u8],
     pieces: &[u32],
     k: usize,
     count: usize,
-) -> Indexed
-    requires { Putting keys.old ends.old classes.now text.now pieces.now k }
+) -> Option<usize>
+    requires { Putting keys.old ends.old text.now pieces.now k }
     ensures { Puts keys.old ends.old text.now pieces.now k count keys.new ends.new result }
 {
-    let low = spans::from(pieces, k);
-    let high = low + spans::bytes(pieces, k);
-    match add(keys, ends, classes, &text[low..high], k as u32, count) {
-        Added::New(made) => Indexed::Nodes(made),
-        Added::Again {
-            earlier: _,
-            count: made,
-        } => Indexed::Nodes(made),
-        Added::NoRoom => Indexed::NoRoom,
+    let piece = spans::octets(text, pieces, k);
+    match add(keys, ends, piece, k as u32, count)? {
+        Added::New(made) => Some(made),
+        Added::Again { count: made, .. } => Some(made),
     }
 }
 
 // The trie of all pieces of a list, in slices that hold the trie of none.
-fn fill(keys: &mut [u64], ends: &mut [u32], text: &[u8], pieces: &[u32]) -> Indexed
+fn fill(keys: &mut [u64], ends: &mut [u32], text: &[u8], pieces: &[u32]) -> Option<usize>
     requires { Indexing keys.old ends.old text.now pieces.now × Trie keys.old ends.old [] [] }
     ensures { Indexes text.now pieces.now keys.old keys.new ends.new result }
 {
-    let table = utf8::classes();
     let many = spans::count(pieces);
     let mut count = 0;
-    let mut k = 0;
-    while k < many {
-        match put(keys, ends, &table, text, pieces, k, count) {
-            Indexed::Nodes(n) => {
-                count = n;
-            }
-            Indexed::NoRoom => {
-                return Indexed::NoRoom;
-            }
-        }
-        k += 1;
+    for k in 0..many {
+        count = put(keys, ends, text, pieces, k, count)?;
     }
-    Indexed::Nodes(count)
+    Some(count)
 }
 
-// The trie of all pieces of a list, in slices that may hold anything: they are cleared first.
-pub fn index(keys: &mut [u64], ends: &mut [u32], text: &[u8], pieces: &[u32]) -> Indexed
+// The trie of all pieces of a list, in slices that may hold anything: they are cleared first. The answer is how many nodes
+// there are besides the root, or None where there is no room.
+pub fn index(keys: &mut [u64], ends: &mut [u32], text: &[u8], pieces: &[u32]) -> Option<usize>
     requires { Indexing keys.old ends.old text.now pieces.now }
     ensures { Indexes text.now pieces.now keys.old keys.new ends.new result }
 {
-    clear_keys(keys);
-    clear_numbers(ends);
+    keys.fill(0);
+    ends.fill(0);
     // The root is at most half of the places.
     if keys.len() < 2 {
-        return Indexed::NoRoom;
+        return None;
     }
     fill(keys, ends, text, pieces)
 }

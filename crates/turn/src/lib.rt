@@ -1,14 +1,15 @@
 // One round of training: a pruning, and EM; and EM alone, which comes before the rounds and after them.
 //
-// It is a crate of its own, apart from `rounds`, since the prover's cost is slices: each of the two has many.
+// It is a crate of its own, apart from `rounds`, so that an edit of one is not paid for by the other's proof.
 #![tactic(auto)]
 
-ghost use Rattle.std.specs.Prelude.{length};
+ghost use Rattle.std.specs.Prelude.{◌≡◌, length};
 ghost use Rattle.shrink.specs.Steps.{Shrinking};
+ghost use Rattle.shrink.specs.Lent.{slices_of, with_scores, others_of, SameState, SameWork};
 ghost use Rattle.turn.specs.Steps.{Improving, Improves, Turns};
 
 use em::em_many;
-use shrink::{Shrunk, shrink};
+use shrink::{Shrunk, State, Work, shrink};
 
 // EM over the pieces there are, so many times.
 pub fn improve(
@@ -40,6 +41,45 @@ pub fn improve(
     );
 }
 
+// The same, of what rounds hand on. Of the state the scores alone change, and of the work slices `expected` alone.
+pub fn improve_state(
+    words: usize,
+    frequencies: &[u64],
+    iterations: usize,
+    count: usize,
+    edges: usize,
+    state: &mut State,
+    work: &mut Work,
+)
+    requires { Improving words frequencies.now count edges state.old.scores.now (length work.old.expected.now) state.old.offsets.now state.old.starts.now state.old.ids.now state.old.spans.now }
+    ensures improves { Improves words frequencies.now iterations count edges state.old.scores.now state.old.offsets.now state.old.starts.now state.old.ids.now state.old.spans.now state.new.scores.now }
+    ensures scores_alone { slices_of state.new ≡ with_scores (slices_of state.old) state.new.scores.now }
+    ensures expected_alone { others_of work.new ≡ others_of work.old }
+    ensures same_state { SameState state.old state.new }
+    ensures same_work { SameWork work.old work.new }
+{
+    // Each slice by a name of its own: of what a field lends in place, no more than the length would be known afterwards.
+    let scores = &mut *state.scores;
+    let offsets = &mut *state.offsets;
+    let starts = &mut *state.starts;
+    let ids = &mut *state.ids;
+    let spans = &mut *state.spans;
+    let expected = &mut *work.expected;
+    improve(
+        words,
+        frequencies,
+        iterations,
+        count,
+        edges,
+        scores,
+        expected,
+        offsets,
+        starts,
+        ids,
+        spans,
+    );
+}
+
 // One round: a pruning, and EM.
 pub fn turn(
     setting: usize,
@@ -51,21 +91,13 @@ pub fn turn(
     keep: usize,
     count: usize,
     edges: usize,
-    pieces: &mut [u32],
-    scores: &mut [f64],
-    expected: &mut [f64],
-    bits: &mut [u64],
-    ranked: &mut [u32],
-    remap: &mut [u32],
-    offsets: &mut [u32],
-    starts: &mut [u32],
-    ids: &mut [u32],
-    spans: &mut [u32],
-    keys: &mut [u64],
-    ends: &mut [u32],
+    state: &mut State,
+    work: &mut Work,
 ) -> Shrunk
-    requires { Shrinking setting text.now words frequencies.now required count edges (record { pieces = pieces.now; scores = scores.old; offsets = offsets.old; starts = starts.old; ids = ids.old; spans = spans.old }) (length expected.old) (length bits.old) (length ranked.old) (length remap.old) (length keys.old) (length ends.old) }
-    ensures { Turns setting text.now words frequencies.now iterations required keep count edges (record { pieces = pieces.old; scores = scores.old; offsets = offsets.old; starts = starts.old; ids = ids.old; spans = spans.old }) (record { pieces = pieces.new; scores = scores.new; offsets = offsets.new; starts = starts.new; ids = ids.new; spans = spans.new }) result }
+    requires { Shrinking setting text.now words frequencies.now required count edges (slices_of state.old) (length work.old.expected.now) (length work.old.bits.now) (length work.old.ranked.now) (length work.old.remap.now) (length work.old.keys.now) (length work.old.ends.now) }
+    ensures turns { Turns setting text.now words frequencies.now iterations required keep count edges (slices_of state.old) (slices_of state.new) result }
+    ensures same_state { SameState state.old state.new }
+    ensures same_work { SameWork work.old work.new }
 {
     let so = shrink(
         setting,
@@ -76,31 +108,17 @@ pub fn turn(
         keep,
         count,
         edges,
-        pieces,
-        scores,
-        expected,
-        bits,
-        ranked,
-        remap,
-        offsets,
-        starts,
-        ids,
-        spans,
-        keys,
-        ends,
+        state,
+        work,
     );
-    improve(
+    improve_state(
         words,
         frequencies,
         iterations,
         so.pieces,
         so.edges,
-        scores,
-        expected,
-        offsets,
-        starts,
-        ids,
-        spans,
+        state,
+        work,
     );
     so
 }

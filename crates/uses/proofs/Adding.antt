@@ -1,5 +1,5 @@
 -- Pieces of a path used once more each, one after the other. Assumes nothing.
-use Rattle.std.proofs.Common.{◌≡◌, ℕ, zero, suc, ◌+◌, ◌<◌, ◌≤◌, List, [], ◌∷◌, ◌++◌, length, get_or, take, sym, refl, ap, ◌∙◌, add-one, arith, length-set, take_all, take-suc}
+use Rattle.std.proofs.Common.{◌≡◌, ℕ, zero, suc, ◌+◌, ◌<◌, List, [], ◌∷◌, ◌++◌, length, get_or, take, sym, refl, ap, ◌∙◌, add-one, arith, length-set, take-suc}
 use lib.Ieee.{Float}
 use Rattle.uses.specs.Uses.{add_one, add_each}
 use Rattle.uses.specs.Steps.{Named}
@@ -16,22 +16,17 @@ named_at pieces (id ∷ ids) n zero l = n.0
 named_at pieces (id ∷ ids) n (suc k) l = named_at pieces ids n.1 k (omega arith)
 
 pub record Adding (path : List ℕ) (weight : Float) (before : List Float) (k : ℕ) (uses : List Float) : Type 0 where
-  pub near : k ≤ length path
   pub long : length uses ≡ length before
   pub named : Named (length before) path
   pub is : uses ≡ add_each weight before (take k path)
 
 module _ {path : List ℕ} {weight : Float} {before : List Float} where
-  pub adding_none : Named (length before) path → Adding path weight before 0 before
-  adding_none n = record { near = omega arith; long = refl; named = n; is = refl }
-
   pub adding_in : {k : ℕ} {uses : List Float} → Adding path weight before k uses → k < length path → {id : ℕ} → id ≡ get_or path k 0 → id < length uses
   adding_in {k} a l e = let n = named_at (length before) path a.named k l in let long = a.long in omega arith
 
   pub adding_more : {k : ℕ} {uses : List Float} → Adding path weight before k uses → k < length path → {id : ℕ} → id ≡ get_or path k 0 → Adding path weight before (k + 1) (add_one weight uses id)
   adding_more {k} {uses} a l {id} e =
       record {
-        near = omega arith;
         long = length-set uses id _ ∙ a.long;
         named = a.named;
         is =
@@ -41,6 +36,3 @@ module _ {path : List ℕ} {weight : Float} {before : List Float} where
             ∙ ap (add_each weight before) (sym (take-suc path k 0 l))
             ∙ ap (λ (j : ℕ). add_each weight before (take j path)) (sym (add-one k));
       }
-
-  pub adding_all : {k : ℕ} {uses : List Float} → Adding path weight before k uses → length path ≤ k → uses ≡ add_each weight before path
-  adding_all {k} a l = a.is ∙ ap (add_each weight before) (take_all k path l)

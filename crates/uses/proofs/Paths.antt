@@ -1,5 +1,5 @@
 -- What the best cut of a word leaves in front of a path. Assumes nothing.
-use Rattle.std.proofs.Common.{◌≡◌, ℕ, ◌<◌, ◌≤◌, List, [], ◌∷◌, ◌++◌, map, length, get_or, take, drop, sym, ap, ◌∙◌, subst, le_refl, arith, length-append, take_at}
+use Rattle.std.proofs.Common.{◌≡◌, ℕ, ◌≤◌, List, [], ◌∷◌, ◌++◌, map, length, get_or, take, drop, sym, ap, ◌∙◌, subst, le_refl, arith, take_at}
 use mathlib.Core.List.{reverse_aux}
 use lib.Ieee.{Float}
 use Rattle.scores.specs.Cuts.{Cut}
@@ -7,11 +7,7 @@ use Rattle.viterbi.specs.Slices.{lattice_of, WellFormed}
 use Rattle.viterbi.specs.Path.{path}
 use Rattle.viterbi.proofs.Shapes.{end_of}
 use Rattle.viterbi.proofs.Paths.{path_cases}
-use Rattle.uses.specs.Uses.{weight_of, add_each, add_word}
-use Rattle.uses.specs.Steps.{Named, Work}
-
-pub rooms : {n best back path : ℕ} → n ≤ 255 → Work best back path → (n < best) × (n < back) × (n ≤ path)
-rooms s w = let a = w.bests in let b = w.backs in let p = w.paths in (omega arith, omega arith, omega arith)
+use Rattle.uses.specs.Steps.{Named}
 
 -- ---- ids that are read backwards
 named_back : (pieces : ℕ) (xs acc : List ℕ) → Named pieces xs → Named pieces acc → Named pieces (reverse_aux xs acc)
@@ -31,20 +27,10 @@ module _ {offsets starts ids : List ℕ} {scores : List Float} {n : ℕ} (w : We
   named = path_cases offsets starts ids scores n w (Named (length scores)) tt (λ cut c. named_back (length scores) (map (λ k. get_or ids k 0) cut) [] (cut_named cut n (le_refl n) c) tt)
 
   module _ (before after : List ℕ) (count : ℕ) (count_is : count ≡ length (path offsets starts ids n scores)) (written : after ≡ path offsets starts ids n scores ++ drop count before) where
-    -- there are so many ids in front
-    pub count_in : count ≤ length after
-    count_in = let e = ap length written ∙ length-append (path offsets starts ids n scores) (drop count before) in omega arith
-
     -- they are the path
-    pub front_is : take count after ≡ path offsets starts ids n scores
+    front_is : take count after ≡ path offsets starts ids n scores
     front_is = ap (take count) written ∙ take_at (path offsets starts ids n scores) (drop count before) count (sym count_is)
-
-    pub front_long : count ≡ length (take count after)
-    front_long = count_is ∙ ap length (sym front_is)
 
     -- and each is a piece's
     pub path_named : (uses : List Float) → length uses ≡ length scores → Named (length uses) (take count after)
     path_named uses e = subst (λ (m : ℕ). Named m (take count after)) (sym e) (subst (Named (length scores)) (sym front_is) named)
-
-    pub added : (frequency : ℕ) (weight : Float) (uses next : List Float) → weight ≡ weight_of frequency → next ≡ add_each weight uses (take count after) → next ≡ add_word offsets starts ids n scores frequency uses
-    added frequency weight uses next e a = a ∙ ap (λ (x : Float). add_each x uses (take count after)) e ∙ ap (add_each (weight_of frequency) uses) front_is

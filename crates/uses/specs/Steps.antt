@@ -19,12 +19,6 @@ pub record Given (offsets starts ids spans frequencies : List ℕ) (words : ℕ)
   pub frequent : words ≤ length frequencies
 
 -- ---- the steps
--- "A word has 0 to 255 bytes", and so at most 256 positions
-pub record Work (best back path : ℕ) : Type 0 where
-  pub bests : 256 ≤ best
-  pub backs : 256 ≤ back
-  pub paths : 256 ≤ path
-
 -- each id is one of so many pieces
 abbrev pub Named : ℕ → List ℕ → Type 0
 Named pieces [] = Unit

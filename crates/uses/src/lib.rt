@@ -2,7 +2,7 @@
 //
 // Every word gives its frequency to each piece on its best cut, words in order and pieces in order. 001 skips words with no
 // characters or no connection before it asks for the best cut. Those have no piece on it, or no cut at all, so they add nothing
-// here either: proofs/Theorems.antt says so, and a pass over the edges is saved. The work slices of a best cut are local arrays,
+// here either: proofs/Theorems.antt says so, and a pass over the edges is saved. The work slices of a best cut are arrays,
 // made once: a word has at most 255 characters.
 #![tactic(auto)]
 
@@ -11,120 +11,80 @@ ghost use Rattle.lattice.specs.Lattice.{Edge};
 ghost use Rattle.cached.specs.Cached.{span_at};
 ghost use Rattle.cached.specs.Held.{Held};
 ghost use Rattle.uses.specs.Uses.{add_each, add_word, uses_of};
-ghost use Rattle.uses.specs.Steps.{Named, Cuttable, Work, WordAt, Given, add_span};
+ghost use Rattle.uses.specs.Steps.{Named, Cuttable, WordAt, Given, add_span};
 
-use formed::read;
-use slots::clear_floats;
+use cached::span_at;
+use formed::Lattice;
 use viterbi::path_core;
+
+// The work slices of a word's best cut.
+#[derive(Drop)]
+struct Work {
+    best: [f64; 256],
+    back: [u32; 256],
+    path: [u32; 256],
+}
 
 // One more use, so many times, of each piece on a path.
 fn add_path(path: &[u32], uses: &mut [f64], weight: f64)
     requires { Named (length uses.old) path.now }
     ensures { uses.new ≡ add_each weight uses.old path.now }
 {
-    let mut k = 0;
-    while k < path.len() {
-        let id = read(path, k);
-        uses[id] = uses[id] + weight;
-        k += 1;
+    for id in path {
+        uses[*id as usize] += weight;
     }
 }
 
-// What a word adds, by its lattice's own slices. No path has no ids.
-fn add_lattice(
-    offsets: &[u32],
-    starts: &[u32],
-    ids: &[u32],
-    scores: &[f64],
-    uses: &mut [f64],
-    best: &mut [f64],
-    back: &mut [u32],
-    path: &mut [u32],
-    frequency: u64,
-    n: usize,
-)
-    requires cuttable { Cuttable offsets.now starts.now ids.now scores.now n }
-    requires work { Work (length best.old) (length back.old) (length path.old) × (length uses.old ≡ length scores.now) }
-    ensures { uses.new ≡ add_word offsets.now starts.now ids.now n scores.now frequency uses.old }
+// What a word adds, by its lattice. No path has no ids.
+fn add_lattice(lattice: &Lattice, scores: &[f64], uses: &mut [f64], work: &mut Work, frequency: u64)
+    requires cuttable { Cuttable lattice.now.offsets.now lattice.now.starts.now lattice.now.ids.now scores.now lattice.now.n }
+    requires as_many { length uses.old ≡ length scores.now }
+    ensures { uses.new ≡ add_word lattice.now.offsets.now lattice.now.starts.now lattice.now.ids.now lattice.now.n scores.now frequency uses.old }
 {
-    let count = path_core(offsets, starts, ids, scores, best, back, path, n);
-    let weight = std::num::nearest_u64_to_f64(frequency);
-    add_path(&path[..count], uses, weight);
-}
-
-// What a word of the cache adds: its lattice's slices are cut out at its span.
-fn add_word(
-    offsets: &[u32],
-    starts: &[u32],
-    ids: &[u32],
-    spans: &[u32],
-    frequencies: &[u64],
-    scores: &[f64],
-    uses: &mut [f64],
-    best: &mut [f64],
-    back: &mut [u32],
-    path: &mut [u32],
-    word: usize,
-)
-    requires word_at { WordAt offsets.now starts.now ids.now spans.now frequencies.now scores.now word }
-    requires work { Work (length best.old) (length back.old) (length path.old) × (length uses.old ≡ length scores.now) }
-    ensures { uses.new ≡ add_span offsets.now starts.now ids.now (span_at spans.now word) scores.now (slice_index frequencies.now word) uses.old }
-{
-    let k = 4 * word;
-    let from = read(spans, k);
-    let to = read(spans, k + 1);
-    let at = read(spans, k + 2);
-    let n = read(spans, k + 3);
-    let past = at + n + 2;
-    add_lattice(
-        &offsets[at..past],
-        &starts[from..to],
-        &ids[from..to],
+    let count = path_core(
+        lattice,
         scores,
-        uses,
-        best,
-        back,
-        path,
-        frequencies[word],
-        n,
+        &mut work.best,
+        &mut work.back,
+        &mut work.path,
     );
+    let weight = std::num::nearest_u64_to_f64(frequency);
+    add_path(&work.path[..count], uses, weight);
 }
 
-// All words in order, from zeros.
-fn add_words(
-    offsets: &[u32],
-    starts: &[u32],
-    ids: &[u32],
-    spans: &[u32],
-    words: usize,
-    frequencies: &[u64],
-    scores: &[f64],
-    uses: &mut [f64],
-    best: &mut [f64],
-    back: &mut [u32],
-    path: &mut [u32],
-)
-    requires given { Given offsets.now starts.now ids.now spans.now frequencies.now words scores.now }
-    requires work { Work (length best.old) (length back.old) (length path.old) × (length uses.old ≡ length scores.now) }
-    ensures { (lattices : List (List (List Edge))) → Held starts.now ids.now offsets.now spans.now (length scores.now) words lattices → uses.new ≡ uses_of lattices frequencies.now scores.now }
-{
-    clear_floats(uses);
-    let mut word = 0;
-    while word < words {
-        add_word(
-            offsets,
-            starts,
-            ids,
-            spans,
-            frequencies,
-            scores,
-            uses,
-            best,
-            back,
-            path,
-            word,
-        );
-        word += 1;
+// What a cache holds of its words, and the scores of pieces. The same as in `em`; what is added up is each crate's own.
+#[derive(Clone, Copy)]
+struct Lent<'a> {
+    offsets: &'a [u32],
+    starts: &'a [u32],
+    ids: &'a [u32],
+    spans: &'a [u32],
+    frequencies: &'a [u64],
+    scores: &'a [f64],
+}
+
+impl Lent<'_> {
+    // What a word of the cache adds: its lattice is that at its span.
+    fn add_word(&self, uses: &mut [f64], work: &mut Work, word: usize)
+        requires word_at { WordAt self.now.offsets.now self.now.starts.now self.now.ids.now self.now.spans.now self.now.frequencies.now self.now.scores.now word }
+        requires as_many { length uses.old ≡ length self.now.scores.now }
+        ensures { uses.new ≡ add_span self.now.offsets.now self.now.starts.now self.now.ids.now (span_at self.now.spans.now word) self.now.scores.now (slice_index self.now.frequencies.now word) uses.old }
+    {
+        let span = span_at(self.spans, word);
+        let lattice = Lattice::at(self.offsets, self.starts, self.ids, span);
+        add_lattice(&lattice, self.scores, uses, work, self.frequencies[word]);
+    }
+
+    // All words in order, from zeros.
+    fn add_words(&self, words: usize, uses: &mut [f64], work: &mut Work)
+        requires given { Given self.now.offsets.now self.now.starts.now self.now.ids.now self.now.spans.now self.now.frequencies.now words self.now.scores.now }
+        requires as_many { length uses.old ≡ length self.now.scores.now }
+        ensures { (lattices : List (List (List Edge))) → Held self.now.starts.now self.now.ids.now self.now.offsets.now self.now.spans.now (length self.now.scores.now) words lattices → uses.new ≡ uses_of lattices self.now.frequencies.now self.now.scores.now }
+    {
+        uses.fill(0.0);
+        for word in 0..words {
+            self.add_word(uses, work, word);
+        }
     }
 }
 
@@ -143,20 +103,18 @@ pub fn uses(
     requires { Given offsets.now starts.now ids.now spans.now frequencies.now words scores.now × (length uses.old ≡ length scores.now) }
     ensures { (lattices : List (List (List Edge))) → Held starts.now ids.now offsets.now spans.now (length scores.now) words lattices → uses.new ≡ uses_of lattices frequencies.now scores.now }
 {
-    let mut best = [0.0f64; 256];
-    let mut back = [0u32; 256];
-    let mut path = [0u32; 256];
-    add_words(
+    let mut work = Work {
+        best: [0.0; 256],
+        back: [0; 256],
+        path: [0; 256],
+    };
+    let lent = Lent {
         offsets,
         starts,
         ids,
         spans,
-        words,
         frequencies,
         scores,
-        uses,
-        &mut best,
-        &mut back,
-        &mut path,
-    );
+    };
+    lent.add_words(words, uses, &mut work);
 }

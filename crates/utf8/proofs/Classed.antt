@@ -1,4 +1,4 @@
--- The class of a first byte: the table's rule from one computed test, and a lent table that is right.
+-- The class of a first byte: the table's rule from one computed test, and a table that is right.
 -- Assumes nothing.
 use Prim.Native.Nat.{ℕ, zero, suc, ◌+◌, ◌-◌, ◌<◌, ◌≤◌}
 use mathlib.Core.Path.{◌≡◌, refl, ◌∙◌, sym, ap, subst}
@@ -12,12 +12,12 @@ use borrow.Author.Tests.{ltb-true, eqb-true}
 use lib.Seq.{get_or-drop}
 use native.Mathlib.Nat.{add-zero, eq-or-lt_of_le}
 use lib.ListN.{drop}
+use Rattle.std.specs.Prelude.{Option}
 use Rattle.utf8.specs.Grammar.{Range}
 use Rattle.laws.proofs.Choices.{cond_cases}
 use Rattle.utf8.proofs.Tests.{in_range, range}
-use Rattle.utf8.specs.Decode.{within, class_of, class_in, Right, by_class, decoded, decoded_by}
-use Rattle.utf8.specs.declared.Decoded.{Decoded}
-use Rattle.utf8.specs.declared.Decoded.TheVariants.{Char}
+use Rattle.utf8.specs.Decode.{character, within, class_of, class_in, Right, by_class, decoded, decoded_by}
+use Rattle.utf8.specs.declared.Char.{Char}
 use lib.Ieee.Fits.{and_l, and_r}
 use Rattle.laws.proofs.Tables.{every, at}
 
@@ -46,7 +46,7 @@ by_right : {table : List ℕ} → Right table → (s : List ℕ) → get_or s 0 
 unfolding decoded_by decoded by_class
 by_right r [] h = refl
 by_right {table} r (a ∷ s) h =
-    cond_cases (λ (d : Decoded). d ≡ by_class (class_of a) a s) (ltb a 0x80) (Char a 1) (by_class (class_in table a) a s)
+    cond_cases (λ (d : Option Char). d ≡ by_class (class_of a) a s) (ltb a 0x80) (character a 1) (by_class (class_in table a) a s)
     (λ t. sym (ap (λ (k : ℕ). by_class k a s) (ascii_class a (ltb-true a 0x80 t))))
     (λ t. ap (λ (k : ℕ). by_class k a s) (r.entry a h))
 

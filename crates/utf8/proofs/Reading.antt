@@ -7,10 +7,10 @@ use native.Mathlib.Nat.{lt_irrefl, add-zero}
 use native.Mathlib.Omega.{arith}
 use lib.ListN.{length, get_or, drop, length-drop, drop_of_length-le}
 use lib.Seq.{drop_at, drop-drop, get_or-drop}
+use Rattle.std.specs.Prelude.{None}
 use Rattle.utf8.specs.Encode.{Scalar, encode, spelling, Scalars, none, more, Spells}
-use Rattle.utf8.specs.Decode.{decoded}
+use Rattle.utf8.specs.Decode.{character, decoded}
 use Rattle.utf8.specs.Chars.{chars_of}
-use Rattle.utf8.specs.declared.Decoded.TheVariants.{Char, Bad}
 use Rattle.utf8.proofs.Whole.{Stands, stands, chars_char, chars_bad}
 
 -- each of a list's code points
@@ -36,7 +36,7 @@ chars_some {text} p h = go (chars_of text) p.spelt
     go (c ∷ cs) e = omega arith
 
 -- what follows a character is UTF-8 too
-rest_spelt : {s : List ℕ} {c w : ℕ} → decoded s ≡ Char c w → Spells s (chars_of s) → Spells (drop w s) (chars_of (drop w s))
+rest_spelt : {s : List ℕ} {c w : ℕ} → decoded s ≡ character c w → Spells s (chars_of s) → Spells (drop w s) (chars_of (drop w s))
 unfolding spelling
 rest_spelt {s} {c} {w} e p =
     let t : Stands s c w = stands e in
@@ -67,7 +67,7 @@ pub reading_none : {text : List ℕ} → Spells text (chars_of text) → Reading
 reading_none p = record { inside = omega arith; few = omega arith; near = omega arith; rest = refl; utf8 = p }
 
 module _ {text : List ℕ} {at k : ℕ} (r : Reading text at k) where
-  pub reading_more : {c w : ℕ} → decoded (drop at text) ≡ Char c w → Read text at k c w
+  pub reading_more : {c w : ℕ} → decoded (drop at text) ≡ character c w → Read text at k c w
   reading_more {c} {w} e =
       let t : Stands (drop at text) c w = stands e in
       let d : drop w (drop at text) ≡ drop (at + w) text = drop-drop w at text in
@@ -91,7 +91,7 @@ module _ {text : List ℕ} {at k : ℕ} (r : Reading text at k) where
       }
 
   -- a text that is UTF-8 has a character at each place that is reached
-  pub reading_bad : at < length text → decoded (drop at text) ≡ Bad → ⊥
+  pub reading_bad : at < length text → decoded (drop at text) ≡ None → ⊥
   unfolding spelling
   reading_bad h e =
       let z : length (drop at text) ≡ 0 = ap length (r.utf8.spelt ∙ ap spelling (chars_bad (drop at text) e)) in

@@ -7,17 +7,17 @@ use native.Mathlib.Nat.{le_refl}
 use native.Mathlib.Omega.{arith}
 use lib.ListN.{length, take, drop, length-append, length-drop}
 use lib.Seq.{take_at, drop_at, drop-append_seam}
+use Rattle.std.specs.Prelude.{Option, Some, None}
 use Rattle.utf8.specs.Encode.{Scalar, encode, spelling, Scalars, none, more, Spells}
-use Rattle.utf8.specs.Decode.{decoded}
+use Rattle.utf8.specs.Decode.{character, decoded}
 use Rattle.utf8.specs.Chars.{chars_of, valid_of}
-use Rattle.utf8.specs.declared.Decoded.{Decoded}
-use Rattle.utf8.specs.declared.Decoded.TheVariants.{Char, Bad}
+use Rattle.utf8.specs.declared.Char.{Char}
 use Rattle.utf8.proofs.Found.{finds}
 use Rattle.utf8.proofs.Encoded.{grammatical}
 use Rattle.utf8.proofs.Whole.{Stands, stands, chars_char, chars_bad}
 
 -- The function from the relation: characters that stand at the front are found, whatever follows.
-pub at_front : (c : ℕ) → Scalar c → (s : List ℕ) → decoded (encode c ++ s) ≡ Char c (length (encode c))
+pub at_front : (c : ℕ) → Scalar c → (s : List ℕ) → decoded (encode c ++ s) ≡ character c (length (encode c))
 at_front c h s = finds (grammatical c h) s
 
 pub chars_front : {cs : List ℕ} → Scalars cs → (s : List ℕ) → chars_of (spelling cs ++ s) ≡ cs ++ chars_of s
@@ -34,9 +34,9 @@ pub record Parts (s : List ℕ) : Type 0 where
   pub scalars : Scalars (chars_of s)
   pub rest : List ℕ
   pub whole : s ≡ spelling (chars_of s) ++ rest
-  pub stop : decoded rest ≡ Bad
+  pub stop : decoded rest ≡ None
 
-stopped : (s : List ℕ) → decoded s ≡ Bad → Parts s
+stopped : (s : List ℕ) → decoded s ≡ None → Parts s
 unfolding spelling
 stopped s e = record {
   scalars = rw (chars_bad s e) none;
@@ -45,7 +45,7 @@ stopped s e = record {
   stop = e;
 }
 
-joined : (s : List ℕ) {c w : ℕ} → decoded s ≡ Char c w → Parts (drop w s) → Parts s
+joined : (s : List ℕ) {c w : ℕ} → decoded s ≡ character c w → Parts (drop w s) → Parts s
 unfolding spelling
 joined s {c} {w} e p =
     let t : Stands s c w = stands e in
@@ -63,9 +63,9 @@ by_length zero [] h = stopped [] (unfold decoded in refl)
 by_length zero (a ∷ s) h = absurd (omega arith)
 by_length (suc f) s h = go (decoded s) refl (λ t l. by_length f t l)
   where
-    go : (d : Decoded) → decoded s ≡ d → ((t : List ℕ) → length t ≤ f → Parts t) → Parts s
-    go Bad e ih = stopped s e
-    go (Char c w) e ih = let t : Stands s c w = stands e in joined s e (ih (drop w s) (simp length-drop (omega arith)))
+    go : (d : Option Char) → decoded s ≡ d → ((t : List ℕ) → length t ≤ f → Parts t) → Parts s
+    go None e ih = stopped s e
+    go (Some r) e ih = let t : Stands s r.code r.width = stands e in joined s {c = r.code} {w = r.width} e (ih (drop r.width s) (simp length-drop (omega arith)))
 
 pub parts : (s : List ℕ) → Parts s
 parts s = by_length (length s) s (le_refl (length s))

@@ -1,20 +1,13 @@
--- Tests and what they say: a range, a negated answer.
+-- The test of a range, and what it says.
 -- Assumes nothing.
 use Prim.Native.Nat.{ℕ}
-use mathlib.Core.Path.{◌≡◌, ◌∙◌, sym, refl}
-use mathlib.Core.Bool.{Bool, true, false, not, ◌&&◌}
+use mathlib.Core.Path.{◌≡◌, sym, refl}
+use mathlib.Core.Bool.{Bool, true, false, ◌&&◌}
 use lib.Dec.{leb}
 use native.Mathlib.Omega.{arith}
-use borrow.Author.Tests.{le-leb, leb-true, not-true, not-false}
+use borrow.Author.Tests.{le-leb, leb-true}
 use Rattle.utf8.specs.Grammar.{Range}
 use Rattle.utf8.specs.Decode.{within}
-
--- an answer r to the test b, negated and asked
-pub refused : {r b : Bool} → r ≡ b → not r ≡ true → b ≡ false
-refused {r} e t = sym e ∙ not-true r t
-
-pub passed : {r b : Bool} → r ≡ b → not r ≡ false → b ≡ true
-passed {r} e t = sym e ∙ not-false r t
 
 -- a byte of a range passes the range's test
 pub in_range : {low high x : ℕ} → Range low high x → within low high x ≡ true

@@ -10,14 +10,13 @@ use native.Mathlib.Omega.{arith}
 use lib.ListN.{length, take, drop, get_or, length-drop, take-append-drop}
 use lib.Seq.{take-length, drop_at, length-take-le}
 use borrow.Author.Tests.{eq-eqb, ne_eqb}
+use Rattle.std.specs.Prelude.{Option, Some, None, Result, Ok, Err}
 use Rattle.utf8.specs.Grammar.{UTF8_char}
 use Rattle.utf8.specs.Encode.{Scalar, encode, Begins, Begins_none, spelling, Scalars, none, more, Spells}
-use Rattle.utf8.specs.Decode.{class_of, Right, decoded_after, by_class, decoded, decoded_by}
+use Rattle.utf8.specs.Decode.{character, class_of, Right, decoded_after, by_class, decoded, decoded_by}
 use Rattle.utf8.specs.Chars.{chars_of, valid_of, measured}
 use Rattle.utf8.specs.Order.{Before}
-use Rattle.utf8.specs.declared.Decoded.{Decoded}
-use Rattle.utf8.specs.declared.Decoded.TheVariants.{Char, Bad}
-use Rattle.utf8.specs.declared.Text.TheVariants.{Chars, BadAt}
+use Rattle.utf8.specs.declared.Char.{Char}
 use Rattle.utf8.proofs.Classed.{by_right_at}
 use Rattle.utf8.proofs.Encoded.{split, encode1, encode2, encode3, encode4, encoded, grammatical}
 use Rattle.utf8.proofs.Whole.{Stands, stands, chars_bad, valid_whole, valid_part}
@@ -32,27 +31,27 @@ pub grammar_is_encoding : {bytes : List ℕ} {c : ℕ} → UTF8_char bytes c ↔
 grammar_is_encoding {bytes} {c} = (λ g. encoded g, λ p. subst (λ (b : List ℕ). UTF8_char b c) (sym p.1) (grammatical c p.0))
 
 -- A character is answered exactly where its encoding stands, with the width of that encoding.
-pub decodes_char : (s : List ℕ) (c w : ℕ) → (decoded s ≡ Char c w) ↔ (Scalar c × Begins s c × (w ≡ length (encode c)))
+pub decodes_char : (s : List ℕ) (c w : ℕ) → (decoded s ≡ character c w) ↔ (Scalar c × Begins s c × (w ≡ length (encode c)))
 decodes_char s c w = (there, back)
   where
-    there : decoded s ≡ Char c w → Scalar c × Begins s c × (w ≡ length (encode c))
+    there : decoded s ≡ character c w → Scalar c × Begins s c × (w ≡ length (encode c))
     there e = let t : Stands s c w = stands e in (t.scalar, (drop w s, t.front), t.width)
 
-    back : Scalar c × Begins s c × (w ≡ length (encode c)) → decoded s ≡ Char c w
-    back (h, (rest, e), l) = ap decoded e ∙ at_front c h rest ∙ ap (λ (n : ℕ). Char c n) (sym l)
+    back : Scalar c × Begins s c × (w ≡ length (encode c)) → decoded s ≡ character c w
+    back (h, (rest, e), l) = ap decoded e ∙ at_front c h rest ∙ ap (λ (n : ℕ). character c n) (sym l)
 
--- `Bad` is answered exactly where no encoding stands.
-pub decodes_bad : (s : List ℕ) → (decoded s ≡ Bad) ↔ Begins_none s
+-- `None` is answered exactly where no encoding stands.
+pub decodes_bad : (s : List ℕ) → (decoded s ≡ None) ↔ Begins_none s
 decodes_bad s = (there, λ n. back n (decoded s) refl)
   where
-    there : decoded s ≡ Bad → Begins_none s
-    there e c h b = let p : decoded s ≡ Char c (length (encode c)) = (decodes_char s c (length (encode c))).1 (h, b, refl) in let z : ◌≡◌ {A = ℕ} 0 1 = cc in omega arith
+    there : decoded s ≡ None → Begins_none s
+    there e c h b = let p : decoded s ≡ character c (length (encode c)) = (decodes_char s c (length (encode c))).1 (h, b, refl) in let z : ◌≡◌ {A = ℕ} 0 1 = cc in omega arith
 
-    back : Begins_none s → (d : Decoded) → decoded s ≡ d → decoded s ≡ Bad
-    back n Bad e = e
-    back n (Char c w) e = let t : Scalar c × Begins s c × (w ≡ length (encode c)) = (decodes_char s c w).0 e in absurd (n c t.0 t.1)
+    back : Begins_none s → (d : Option Char) → decoded s ≡ d → decoded s ≡ None
+    back n None e = e
+    back n (Some r) e = let t : Scalar r.code × Begins s r.code × (r.width ≡ length (encode r.code)) = (decodes_char s r.code r.width).0 e in absurd (n r.code t.0 t.1)
 
--- With a table that is right, the lent decoder says the same of a text of bytes.
+-- With a table that is right, the decoder by a table says the same of a text of bytes.
 pub lent : {table : List ℕ} → Right table → (text : List ℕ) (at : ℕ) → get_or text at 0 < 256 → decoded_by table (drop at text) ≡ decoded (drop at text)
 lent r text at h = by_right_at r text at h
 
@@ -84,32 +83,32 @@ spells s = (λ p. sym (ap length p.spelt), back)
 pub valid_up_to : (s : List ℕ) → Spells (take (valid_of s) s) (chars_of s) × Begins_none (drop (valid_of s) s)
 valid_up_to s = (record { scalars = (parts s).scalars; spelt = valid_take s }, (decodes_bad (drop (valid_of s) s)).0 (ap decoded (valid_drop s) ∙ (parts s).stop))
 
--- `Chars n` is answered exactly where the text is the encodings of n code points one after the other.
-pub measures_chars : (s : List ℕ) (n : ℕ) → (measured s ≡ Chars n) ↔ ((cs : List ℕ) × Spells s cs × (length cs ≡ n))
+-- `Ok n` is answered exactly where the text is the encodings of n code points one after the other.
+pub measures_chars : (s : List ℕ) (n : ℕ) → (measured s ≡ Ok n) ↔ ((cs : List ℕ) × Spells s cs × (length cs ≡ n))
 unfolding measured valid_of
 measures_chars s n = (there, back)
   where
-    count : Chars n ≡ measured s → valid_of s ≡ length s → length (chars_of s) ≡ n
-    count p v = let q : Chars n ≡ Chars (length (chars_of s)) = p ∙ rw (eq-eqb (valid_of s) (length s) v) in cc
+    count : Ok n ≡ measured s → valid_of s ≡ length s → length (chars_of s) ≡ n
+    count p v = let q : ◌≡◌ {A = Result ℕ ℕ} (Ok n) (Ok (length (chars_of s))) = p ∙ rw (eq-eqb (valid_of s) (length s) v) in cc
 
-    there : measured s ≡ Chars n → (cs : List ℕ) × Spells s cs × (length cs ≡ n)
+    there : measured s ≡ Ok n → (cs : List ℕ) × Spells s cs × (length cs ≡ n)
     there p = let v : valid_of s ≡ length s = sym (valid_whole s (sym p)) in (chars_of s, (spells s).1 v, count (sym p) v)
 
-    back : (cs : List ℕ) × Spells s cs × (length cs ≡ n) → measured s ≡ Chars n
+    back : (cs : List ℕ) × Spells s cs × (length cs ≡ n) → measured s ≡ Ok n
     back (cs, p, l) =
         let e : chars_of s ≡ cs = chars_spelt p in
         let v : valid_of s ≡ length s = ap (λ (x : List ℕ). length (spelling x)) e ∙ sym (ap length p.spelt) in
         rw (eq-eqb (valid_of s) (length s) v, e, l)
 
--- `BadAt k` is answered exactly where the first k bytes are such encodings and at k, within the text, none stands.
-pub measures_bad : (s : List ℕ) (k : ℕ) → (measured s ≡ BadAt k) ↔ ((k < length s) × ((cs : List ℕ) × Spells (take k s) cs) × Begins_none (drop k s))
+-- `Err k` is answered exactly where the first k bytes are such encodings and at k, within the text, none stands.
+pub measures_bad : (s : List ℕ) (k : ℕ) → (measured s ≡ Err k) ↔ ((k < length s) × ((cs : List ℕ) × Spells (take k s) cs) × Begins_none (drop k s))
 unfolding measured valid_of
 measures_bad s k = (there, back)
   where
-    short : measured s ≡ BadAt k → valid_of s ≡ length s → ⊥
-    short p v = let q : BadAt k ≡ Chars (length (chars_of s)) = sym p ∙ rw (eq-eqb (valid_of s) (length s) v) in let z : ◌≡◌ {A = ℕ} 0 1 = cc in omega arith
+    short : measured s ≡ Err k → valid_of s ≡ length s → ⊥
+    short p v = let q : ◌≡◌ {A = Result ℕ ℕ} (Err k) (Ok (length (chars_of s))) = sym p ∙ rw (eq-eqb (valid_of s) (length s) v) in let z : ◌≡◌ {A = ℕ} 0 1 = cc in omega arith
 
-    there : measured s ≡ BadAt k → (k < length s) × ((cs : List ℕ) × Spells (take k s) cs) × Begins_none (drop k s)
+    there : measured s ≡ Err k → (k < length s) × ((cs : List ℕ) × Spells (take k s) cs) × Begins_none (drop k s)
     there p =
         let e : k ≡ valid_of s = valid_part s (sym p) in
         let n : valid_of s ≡ length s → ⊥ = short p in (
@@ -122,7 +121,7 @@ measures_bad s k = (there, back)
         at_most (inl e) n = absurd (n e)
         at_most (inr l) n = l
 
-    back : (k < length s) × ((cs : List ℕ) × Spells (take k s) cs) × Begins_none (drop k s) → measured s ≡ BadAt k
+    back : (k < length s) × ((cs : List ℕ) × Spells (take k s) cs) × Begins_none (drop k s) → measured s ≡ Err k
     back (h, (cs, p), b) =
         let stop : chars_of (drop k s) ≡ [] = chars_bad (drop k s) ((decodes_bad (drop k s)).1 b) in
         let e : chars_of s ≡ cs =
@@ -142,18 +141,18 @@ width c =
     (λ g. split c 0xFFFF (λ h. rw (encode3 c g h) (omega arith)) (λ g. rw (encode4 c g) (omega arith))))
 
 -- A character that is decoded lies within the text.
-pub inside : (text : List ℕ) (at : ℕ) {c w : ℕ} → decoded (drop at text) ≡ Char c w → (1 ≤ w) × (w ≤ 4) × (at + w ≤ length text)
+pub inside : (text : List ℕ) (at : ℕ) {c w : ℕ} → decoded (drop at text) ≡ character c w → (1 ≤ w) × (w ≤ 4) × (at + w ≤ length text)
 inside text at {c} {w} e =
     let t : Stands (drop at text) c w = stands e in
     (t.some, subst (λ (n : ℕ). n ≤ 4) (sym t.width) (width c).1, omega (arith, length-drop at text, t.inside, t.some))
 
 -- The first character of a text is what is decoded, and the others are those of what follows it.
 pub first_character : {s : List ℕ} {c : ℕ} {cs : List ℕ} → Spells s (c ∷ cs)
-    → (decoded s ≡ Char c (length (encode c))) × Spells (drop (length (encode c)) s) cs
+    → (decoded s ≡ character c (length (encode c))) × Spells (drop (length (encode c)) s) cs
 unfolding spelling
 first_character {s} {c} {cs} p = go p.scalars
   where
-    go : Scalars (c ∷ cs) → (decoded s ≡ Char c (length (encode c))) × Spells (drop (length (encode c)) s) cs
+    go : Scalars (c ∷ cs) → (decoded s ≡ character c (length (encode c))) × Spells (drop (length (encode c)) s) cs
     go (more h r) = (
       (decodes_char s c (length (encode c))).1 (h, (spelling cs, p.spelt), refl),
       record { scalars = r; spelt = ap (drop (length (encode c))) p.spelt ∙ drop_at (encode c) (spelling cs) (length (encode c)) refl },
@@ -208,9 +207,9 @@ order_of_lists cs ds = (λ b. spelt_before b, λ b. go (which cs ds) b)
 -- ---- document 01's examples: ED A0 80, C0 80 and F4 90 80 80 are refused; F4 8F BF BF is accepted, as 10FFFF
 
 pub examples :
-    (decoded (0xED ∷ 0xA0 ∷ 0x80 ∷ []) ≡ Bad)
-    × (decoded (0xC0 ∷ 0x80 ∷ []) ≡ Bad)
-    × (decoded (0xF4 ∷ 0x90 ∷ 0x80 ∷ 0x80 ∷ []) ≡ Bad)
-    × (decoded (0xF4 ∷ 0x8F ∷ 0xBF ∷ 0xBF ∷ []) ≡ Char 0x10FFFF 4)
+    (decoded (0xED ∷ 0xA0 ∷ 0x80 ∷ []) ≡ None)
+    × (decoded (0xC0 ∷ 0x80 ∷ []) ≡ None)
+    × (decoded (0xF4 ∷ 0x90 ∷ 0x80 ∷ 0x80 ∷ []) ≡ None)
+    × (decoded (0xF4 ∷ 0x8F ∷ 0xBF ∷ 0xBF ∷ []) ≡ character 0x10FFFF 4)
 unfolding decoded by_class class_of decoded_after
 examples = (refl, refl, refl, refl)

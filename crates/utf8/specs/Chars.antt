@@ -1,17 +1,14 @@
 -- A whole text: its characters, as far as they go, and what `measure` and `valid_up_to` answer.
 -- Assumes nothing.
-use Rattle.std.specs.Prelude.{cond, ℕ, zero, suc, List, [], ◌∷◌, eqb, length, drop}
+use Rattle.std.specs.Prelude.{cond, ℕ, zero, suc, List, [], ◌∷◌, eqb, length, drop, Option, Some, None, Result, Ok, Err}
 use Rattle.utf8.specs.Encode.{spelling}
 use Rattle.utf8.specs.Decode.{decoded}
-use Rattle.utf8.specs.declared.Decoded.{Decoded}
-use Rattle.utf8.specs.declared.Decoded.TheVariants.{Char, Bad}
-use Rattle.utf8.specs.declared.Text.{Text}
-use Rattle.utf8.specs.declared.Text.TheVariants.{Chars, BadAt}
+use Rattle.utf8.specs.declared.Char.{Char}
 
 -- a character and what `rest` makes of the text after it; nothing where none stands
-unfoldable pub after : Decoded → List ℕ → (List ℕ → List ℕ) → List ℕ
-after (Char c w) s rest = c ∷ rest (drop w s)
-after Bad s rest = []
+unfoldable pub after : Option Char → List ℕ → (List ℕ → List ℕ) → List ℕ
+after (Some found) s rest = found.code ∷ rest (drop found.width s)
+after None s rest = []
 
 -- The recursion is not on a part of the text, so it counts down a number that is large enough: the length. The equations
 -- that a reader expects are `chars_char` and `chars_bad` of proofs/Whole, and nothing after them looks at the count.
@@ -30,5 +27,5 @@ unfoldable pub valid_of : List ℕ → ℕ
 valid_of s = length (spelling (chars_of s))
 
 -- the number of characters, if they are the whole text; else where the first octet stands that begins none
-unfoldable pub measured : List ℕ → Text
-measured s = cond (eqb (valid_of s) (length s)) (Chars (length (chars_of s))) (BadAt (valid_of s))
+unfoldable pub measured : List ℕ → Result ℕ ℕ
+measured s = cond (eqb (valid_of s) (length s)) (Ok (length (chars_of s))) (Err (valid_of s))

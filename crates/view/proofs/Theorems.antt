@@ -8,9 +8,11 @@ use lib.ListN.{length, get_or}
 use lib.Ieee.{Float}
 use borrow.Author.Tests.{le-leb}
 use Rattle.formed.specs.Formed.{Inside}
+use Rattle.formed.specs.Word.{WordFormed}
 use Rattle.formed.specs.declared.Span.{Span}
 use Rattle.cached.specs.Cached.{span_at, CacheFormed}
-use Rattle.em.proofs.Spans.{cut_formed}
+use Rattle.cached.proofs.Words.{cut_is}
+use Rattle.viterbi.proofs.Exact.{span_well_formed}
 use Rattle.cut.specs.Cut.{Formed}
 use Rattle.view.specs.Located.{inside, whole, located}
 use Rattle.view.specs.View.{parted, viewed, nothing, lent_of}
@@ -33,7 +35,8 @@ pub formed_viewed : (starts ids offsets spans : List ℕ) (scores : List Float) 
     → Formed (lent_of (viewed starts ids offsets spans index) scores)
 formed_viewed starts ids offsets spans scores words index formed h =
     subst (λ word. Formed (lent_of (parted starts ids offsets word) scores)) (sym (formed_located starts ids offsets spans (length scores) words index formed h))
-    (cut_formed offsets starts ids spans index (span_at spans index).from (span_at spans index).to (span_at spans index).at (span_at spans index).n ((span_at spans index).at + (span_at spans index).n + 2) refl refl refl refl refl scores (formed index h).formed)
+    (subst (λ (X : Type 0). X) (sym (cut_is offsets starts ids spans index (span_at spans index) refl (λ o s i n. WordFormed o s i (length scores) n)))
+    (span_well_formed starts ids offsets scores (span_at spans index) (formed index h).formed).word)
 
 -- "`view` of an absent index, or of a span outside its slices, is BadLattice at it, with n 0 and empty slices"
 module _ (starts ids offsets spans : List ℕ) (index : ℕ) where

@@ -1,9 +1,8 @@
 -- What a view shows of the slices that it borrows, and what it is to show. Definitions only.
-use Rattle.std.specs.Prelude.{List, [], ℕ, ◌-◌, take, drop, Float}
+use Rattle.std.specs.Prelude.{List, [], ℕ, ◌-◌, take, drop, Float, Result, Err}
+use Rattle.refusal.specs.declared.Refusal.{Refusal}
 use Rattle.refusal.specs.declared.Refusal.TheVariants.{BadLattice}
 use Rattle.cut.specs.Cut.{Lent}
-use Rattle.view.specs.declared.Seen.{Seen}
-use Rattle.view.specs.declared.Seen.TheVariants.{Refused}
 use Rattle.view.specs.declared.Located.{Located}
 use Rattle.view.specs.declared.LatticeView.{LatticeView}
 use Rattle.view.specs.Located.{located}
@@ -24,7 +23,7 @@ pub record Shown : Type 0 where
   pub starts : List ℕ
   pub ids : List ℕ
   pub n : ℕ
-  pub seen : Seen
+  pub seen : Result (Unit {0}) Refusal
 
 abbrev pub shown : LatticeView → Shown
 shown v = record { offsets = v.offsets.now; starts = v.starts.now; ids = v.ids.now; n = v.n; seen = v.seen }
@@ -39,7 +38,7 @@ viewed starts ids offsets spans index = parted starts ids offsets (located start
 
 -- no lattice: "n 0 and empty slices"
 abbrev pub nothing : ℕ → Shown
-nothing index = record { offsets = []; starts = []; ids = []; n = 0; seen = Refused (BadLattice index) }
+nothing index = record { offsets = []; starts = []; ids = []; n = 0; seen = Err (BadLattice index) }
 
 -- what a view lends, beside the scores, to a call on one word's lattice
 abbrev pub lent_of : Shown → List Float → Lent

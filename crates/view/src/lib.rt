@@ -7,26 +7,21 @@
 // slices".
 #![tactic(auto)]
 
-ghost use Rattle.std.specs.Prelude.{◌≡◌, ◌≤◌, length};
+ghost use Rattle.std.specs.Prelude.{◌≡◌, ◌<◌, length};
 ghost use Rattle.cut.specs.Cut.{Answers, Excludes, zeros, zero_floats};
 ghost use Rattle.cut.specs.Sums.{Connects, Expects};
 ghost use Rattle.view.specs.Located.{inside, absent, located};
-ghost use Rattle.view.specs.View.{offsets_seen, edges_seen, shown, viewed, lent_of};
+ghost use Rattle.view.specs.View.{shown, viewed, lent_of};
 
-use cut::{Connection, Cut, Excluded, Expected};
+use cached::span_at;
+use cut::Cut;
+use formed::Span;
 use refusal::Refusal;
 
-// The lattice is there, or why not.
-#[derive(Clone, Copy)]
-pub enum Seen {
-    Whole,
-    Refused(Refusal),
-}
-
-// Where a word's edges and offsets stand, and how many characters it has.
-#[derive(Clone, Copy)]
+// Where a word's edges and offsets stand, and how many characters it has. `seen` says that the lattice is there, or why not.
+#[derive(Clone, Copy, Debug, PartialEq, Eq)]
 pub struct Located {
-    pub seen: Seen,
+    pub seen: Result<(), Refusal>,
     pub from: usize,
     pub to: usize,
     pub at: usize,
@@ -35,12 +30,14 @@ pub struct Located {
 }
 
 // Whether a span is inside the slices.
-fn inside(starts: &[u32], ids: &[u32], offsets: &[u32], from: u32, to: u32, at: u32, n: u32) -> bool
-    ensures { result ≡ inside starts.now ids.now offsets.now from to at n }
+fn inside(starts: &[u32], ids: &[u32], offsets: &[u32], span: Span) -> bool
+    requires { (span.at < 4294967296) × (span.n < 4294967296) }
+    ensures { result ≡ inside starts.now ids.now offsets.now span.from span.to span.at span.n }
 {
-    from <= to
-        && (to as usize <= starts.len()
-            && (to as usize <= ids.len() && at as usize + n as usize + 2 <= offsets.len()))
+    span.from <= span.to
+        && span.to <= starts.len()
+        && span.to <= ids.len()
+        && span.at + span.n + 2 <= offsets.len()
 }
 
 // No lattice: n 0 and nothing of the slices.
@@ -48,7 +45,7 @@ fn absent(index: usize) -> Located
     ensures { result ≡ absent index }
 {
     Located {
-        seen: Seen::Refused(Refusal::BadLattice(index as u64)),
+        seen: Err(Refusal::BadLattice(index as u64)),
         from: 0,
         to: 0,
         at: 0,
@@ -65,55 +62,32 @@ pub fn locate(starts: &[u32], ids: &[u32], offsets: &[u32], spans: &[u32], index
     if spans.len() / 4 <= index {
         return absent(index);
     }
-    let k = 4 * index;
-    let from = spans[k];
-    let to = spans[k + 1];
-    let at = spans[k + 2];
-    let n = spans[k + 3];
-    if !inside(starts, ids, offsets, from, to, at, n) {
+    let span = span_at(spans, index);
+    if !inside(starts, ids, offsets, span) {
         return absent(index);
     }
     Located {
-        seen: Seen::Whole,
-        from: from as usize,
-        to: to as usize,
-        at: at as usize,
-        past: at as usize + n as usize + 2,
-        n: n as usize,
+        seen: Ok(()),
+        from: span.from,
+        to: span.to,
+        at: span.at,
+        past: span.at + span.n + 2,
+        n: span.n,
     }
 }
 
-// A word's offsets among a cache's.
-fn offsets_of<'a>(offsets: &'a [u32], word: Located) -> &'a [u32]
-    requires { (word.at ≤ word.past) × (word.past ≤ length offsets.now) }
-    ensures { result.now ≡ offsets_seen word offsets.now }
-{
-    let at = word.at;
-    let past = word.past;
-    &offsets[at..past]
-}
-
-// What a slice of edges, starts or piece ids, has of a word.
-fn edges_of<'a>(edges: &'a [u32], word: Located) -> &'a [u32]
-    requires { (word.from ≤ word.to) × (word.to ≤ length edges.now) }
-    ensures { result.now ≡ edges_seen word edges.now }
-{
-    let from = word.from;
-    let to = word.to;
-    &edges[from..to]
-}
-
 // One word's lattice, borrowed: its n + 2 offsets, and where each of its edges starts and which piece it is.
-#[derive(Clone, Copy)]
+#[derive(Clone, Copy, Debug, PartialEq, Eq)]
 pub struct LatticeView<'a> {
     pub offsets: &'a [u32],
     pub starts: &'a [u32],
     pub ids: &'a [u32],
     pub n: usize,
-    pub seen: Seen,
+    pub seen: Result<(), Refusal>,
 }
 
 // The lattice of one word of a cache.
+#[tactic(auto, using(crate::proofs::Seeing::within_at))]
 pub fn view<'a>(
     starts: &'a [u32],
     ids: &'a [u32],
@@ -125,9 +99,9 @@ pub fn view<'a>(
 {
     let word = locate(starts, ids, offsets, spans, index);
     LatticeView {
-        offsets: offsets_of(offsets, word),
-        starts: edges_of(starts, word),
-        ids: edges_of(ids, word),
+        offsets: &offsets[word.at..word.past],
+        starts: &starts[word.from..word.to],
+        ids: &ids[word.from..word.to],
         n: word.n,
         seen: word.seen,
     }
@@ -136,7 +110,7 @@ pub fn view<'a>(
 // Thin functions: each takes the view apart, and calls what works on plain slices.
 impl<'a> LatticeView<'a> {
     // Whether some chain of edges leads from the first position of the word to its last.
-    pub fn is_connected(self, reach: &mut [u32]) -> Connection
+    pub fn is_connected(self, reach: &mut [u32]) -> Result<bool, Refusal>
         ensures connects { Connects self.entry.offsets.now self.entry.starts.now self.entry.ids.now self.entry.n reach.old result }
         ensures reach_after { reach.new ≡ zeros (length reach.old) }
     {
@@ -150,7 +124,7 @@ impl<'a> LatticeView<'a> {
         best: &mut [f64],
         back: &mut [u32],
         path: &mut [u32],
-    ) -> Cut
+    ) -> Result<Cut, Refusal>
         ensures answers { Answers (lent_of (shown self.entry) scores.now) best.old back.old path.old path.new result }
         ensures best_after { (best.new ≡ zero_floats (length best.old)) × (back.new ≡ zeros (length back.old)) }
     {
@@ -167,7 +141,12 @@ impl<'a> LatticeView<'a> {
     }
 
     // The best score of the word without ever using a piece.
-    pub fn viterbi_excluding(self, scores: &[f64], excluded: u32, best: &mut [f64]) -> Excluded
+    pub fn viterbi_excluding(
+        self,
+        scores: &[f64],
+        excluded: u32,
+        best: &mut [f64],
+    ) -> Result<f64, Refusal>
         ensures excludes { Excludes (lent_of (shown self.entry) scores.now) excluded best.old result }
         ensures best_after { best.new ≡ zero_floats (length best.old) }
     {
@@ -190,7 +169,7 @@ impl<'a> LatticeView<'a> {
         alpha: &mut [f64],
         beta: &mut [f64],
         emitted: &mut [f64],
-    ) -> Expected
+    ) -> Result<f64, Refusal>
         ensures expects { Expects (lent_of (shown self.entry) scores.now) alpha.old beta.old emitted.old emitted.new result }
         ensures alpha_after { (alpha.new ≡ zero_floats (length alpha.old)) × (beta.new ≡ zero_floats (length beta.old)) }
     {
@@ -219,7 +198,7 @@ pub fn viterbi_at<'a>(
     best: &mut [f64],
     back: &mut [u32],
     path: &mut [u32],
-) -> Cut
+) -> Result<Cut, Refusal>
     ensures answers { Answers (lent_of (viewed starts.now ids.now offsets.now spans.now index) scores.now) best.old back.old path.old path.new result }
     ensures best_after { (best.new ≡ zero_floats (length best.old)) × (back.new ≡ zeros (length back.old)) }
 {

@@ -10,11 +10,11 @@ use lib.IntN.{pos}
 use lib.ListN.{length}
 use lib.Ieee.{Float, nan, inf, fin, binary64, add, lt, of_bits}
 use lib.Ieee.Fits.{and_l, and_r}
+use Rattle.std.specs.Prelude.{Some, None}
 use Rattle.lattice.specs.Lattice.{lattice}
 use Rattle.lattice.specs.Layout.{joined, offsets}
 use Rattle.scores.specs.Cuts.{Lattice}
 use Rattle.scores.specs.Floats.{zero_or_below}
-use Rattle.viterbi.specs.declared.Best.TheVariants.{Score, NoPath}
 use Rattle.viterbi.specs.Slices.{lattice_of, Scored}
 use Rattle.viterbi.specs.Path.{path}
 use Rattle.viterbi.specs.Outcome.{Outcome, outcome}
@@ -75,7 +75,7 @@ minus_two = fin true 1 (pos 1)
 abbrev four : List Float
 four = minus 1 ∷ minus 1 ∷ minus_two ∷ minus_two ∷ []
 
-pub example_aba : (x y z : ℕ) → Comes (a ∷ b ∷ ab ∷ ba ∷ []) (97 ∷ 98 ∷ 97 ∷ []) four (x ∷ y ∷ z ∷ []) (record { best = Score (minus 3); count = 2; slots = 0 ∷ 3 ∷ z ∷ [] })
+pub example_aba : (x y z : ℕ) → Comes (a ∷ b ∷ ab ∷ ba ∷ []) (97 ∷ 98 ∷ 97 ∷ []) four (x ∷ y ∷ z ∷ []) (record { best = Some (minus 3); count = 2; slots = 0 ∷ 3 ∷ z ∷ [] })
 unfolding add lt
 example_aba x y z = comes (a ∷ b ∷ ab ∷ ba ∷ []) (97 ∷ 98 ∷ 97 ∷ []) four refl (all_scored four tt) (x ∷ y ∷ z ∷ []) _ refl
 
@@ -83,18 +83,18 @@ example_aba x y z = comes (a ∷ b ∷ ab ∷ ba ∷ []) (97 ∷ 98 ∷ 97 ∷ [
 abbrev steep : Float
 steep = of_bits binary64 0xffee_42d1_3077_3b76
 
-pub example_no_path : (x y : ℕ) → Comes (a ∷ b ∷ []) ab (steep ∷ steep ∷ []) (x ∷ y ∷ []) (record { best = NoPath; count = 0; slots = x ∷ y ∷ [] })
+pub example_no_path : (x y : ℕ) → Comes (a ∷ b ∷ []) ab (steep ∷ steep ∷ []) (x ∷ y ∷ []) (record { best = None; count = 0; slots = x ∷ y ∷ [] })
 unfolding of_bits add lt
 example_no_path x y = comes (a ∷ b ∷ []) ab (steep ∷ steep ∷ []) refl (all_scored (steep ∷ steep ∷ []) tt) (x ∷ y ∷ []) _ refl
 
 -- "with ab at -3: that piece"
-pub example_that_piece : (x y : ℕ) → Comes (a ∷ b ∷ ab ∷ []) ab (steep ∷ steep ∷ minus 3 ∷ []) (x ∷ y ∷ []) (record { best = Score (minus 3); count = 1; slots = 2 ∷ y ∷ [] })
+pub example_that_piece : (x y : ℕ) → Comes (a ∷ b ∷ ab ∷ []) ab (steep ∷ steep ∷ minus 3 ∷ []) (x ∷ y ∷ []) (record { best = Some (minus 3); count = 1; slots = 2 ∷ y ∷ [] })
 unfolding of_bits add lt
 example_that_piece x y = comes (a ∷ b ∷ ab ∷ []) ab (steep ∷ steep ∷ minus 3 ∷ []) refl (all_scored (steep ∷ steep ∷ minus 3 ∷ []) tt) (x ∷ y ∷ []) _ refl
 
 -- ---- "empty word: no pieces, score 0, accepted", whatever the pieces and the scores
 pub example_empty : (pieces : List (List ℕ)) (scores : List Float) → length scores ≡ length pieces → Scored scores → (before : List ℕ)
-    → Comes pieces [] scores before (record { best = Score (fin false 0 (pos 0)); count = 0; slots = before })
+    → Comes pieces [] scores before (record { best = Some (fin false 0 (pos 0)); count = 0; slots = before })
 example_empty pieces scores many scored before = comes pieces [] scores many scored before _ refl
 
 -- ---- other scores, for `path_core`. Word ab: a piece of NaN is above nothing, and so is not used

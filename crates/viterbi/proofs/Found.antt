@@ -6,6 +6,7 @@ use Prim.Native.Nat.{ℕ}
 use lib.ListN.{length, get_or, drop}
 use lib.Ieee.{Float, nan}
 use lib.Ieee.Scale.{finite}
+use Rattle.std.specs.Bool.{then_some}
 use Rattle.laws.proofs.Choices.{yes}
 use Rattle.scores.specs.Cuts.{Lattice}
 use Rattle.scores.specs.Table.{table, best, best_cut}
@@ -13,7 +14,7 @@ use Rattle.scores.specs.Floats.{f64s}
 use Rattle.scores.proofs.Theorems.{best_finite, none_finite}
 use Rattle.viterbi.specs.Slices.{lattice_of, WellFormed, Scored}
 use Rattle.viterbi.specs.Path.{path}
-use Rattle.viterbi.specs.Answers.{Found, Missed}
+use Rattle.viterbi.specs.Answers.{Found, Missed, Answers}
 use Rattle.viterbi.proofs.Shapes.{sound}
 use Rattle.viterbi.proofs.Passed.{top_is}
 use Rattle.viterbi.proofs.Paths.{spelt_long, path_found, path_none}
@@ -29,7 +30,7 @@ module _ (offsets starts ids : List ℕ) (scores : List Float) (n : ℕ) (w : We
   top_finite e = sym (ap finite top) ∙ e
 
   -- a finite greatest sum is the best cut's
-  pub found : finite (get_or b n nan) ≡ true → Found l ids n before after (get_or b n nan) count
+  found : finite (get_or b n nan) ≡ true → Found l ids n before after (get_or b n nan) count
   found e =
       let f = top_finite e in
       let p = path_found offsets starts ids scores n f in
@@ -43,7 +44,7 @@ module _ (offsets starts ids : List ℕ) (scores : List Float) (n : ℕ) (w : We
       }
 
   -- and otherwise no cut has a finite sum
-  pub missed : finite (get_or b n nan) ≡ false → Missed l n before after count
+  missed : finite (get_or b n nan) ≡ false → Missed l n before after count
   missed e =
       let f = top_finite e in
       let p = path_none offsets starts ids scores n f in
@@ -53,3 +54,8 @@ module _ (offsets starts ids : List ℕ) (scores : List Float) (n : ℕ) (w : We
         count_is = none;
         kept = written ∙ ap (λ (front : List ℕ). front ++ drop count before) p ∙ ap (λ (k : ℕ). drop k before) none;
       }
+
+  -- by the test that the code makes
+  pub answers : (t : Bool) → finite (get_or b n nan) ≡ t → Answers l ids n before after (then_some t (get_or b n nan)) count
+  answers true e = found e
+  answers false e = missed e

@@ -11,14 +11,13 @@ use native.Mathlib.Omega.{arith}
 use lib.ListN.{length, drop}
 use lib.Ieee.{Float}
 use lib.Ieee.Scale.{finite}
+use Rattle.std.specs.Prelude.{Option, Some, None}
 use Rattle.laws.proofs.Choices.{yes, cond_cases}
 use Rattle.scores.specs.Cuts.{Lattice, sum}
 use Rattle.scores.specs.Table.{best, best_cut}
 use Rattle.scores.specs.Floats.{f64s}
 use Rattle.scores.specs.Best.{FiniteCut, BestCut, BestCutTheorem}
 use Rattle.scores.proofs.Theorems.{best_finite, none_finite, best_cut_theorem}
-use Rattle.viterbi.specs.declared.Best.{Best}
-use Rattle.viterbi.specs.declared.Best.TheVariants.{Score, NoPath}
 use Rattle.viterbi.specs.Slices.{lattice_of, without, WellFormed, Scored}
 use Rattle.viterbi.specs.Walk.{spell}
 use Rattle.viterbi.specs.Path.{path}
@@ -68,7 +67,7 @@ module _ (offsets starts ids : List ℕ) (scores : List Float) (n : ℕ) (w : We
     finite_cut f = best_cut_of.given_exactly.1 (f.cut, f.is_best)
 
     same_found : {after after' : List ℕ} {score score' : Float} {count count' : ℕ} → Found l ids n before after score count → Found l ids n before after' score' count'
-        → ◌≡◌ {A = Outcome} (record { best = Score score; count = count; slots = after }) (record { best = Score score'; count = count'; slots = after' })
+        → ◌≡◌ {A = Outcome} (record { best = Some score; count = count; slots = after }) (record { best = Some score'; count = count'; slots = after' })
     same_found {after} {after'} {score} {score'} {count} {count'} f g =
         let one : f.cut ≡ g.cut = best_cut_of.no_second f.cut g.cut f.is_best g.is_best in
         let s : score ≡ score' = f.score_is ∙ ap (sum f64s l) one ∙ sym g.score_is in
@@ -79,23 +78,23 @@ module _ (offsets starts ids : List ℕ) (scores : List Float) (n : ℕ) (w : We
     pub one_fits : (r s : Outcome) → Fits r → Fits s → r ≡ s
     one_fits r s p q = go r.best s.best p q
       where
-        go : (b d : Best) → Answers l ids n before r.slots b r.count → Answers l ids n before s.slots d s.count
+        go : (b d : Option Float) → Answers l ids n before r.slots b r.count → Answers l ids n before s.slots d s.count
             → ◌≡◌ {A = Outcome} (record { best = b; count = r.count; slots = r.slots }) (record { best = d; count = s.count; slots = s.slots })
-        go (Score x) (Score y) f g = same_found f g
-        go (Score x) NoPath f m = absurd (m.none (finite_cut f))
-        go NoPath (Score y) m f = absurd (m.none (finite_cut f))
-        go NoPath NoPath m o = let c : r.count ≡ s.count = m.count_is ∙ sym o.count_is in let a : r.slots ≡ s.slots = m.kept ∙ sym o.kept in cc
+        go (Some x) (Some y) f g = same_found f g
+        go (Some x) None f m = absurd (m.none (finite_cut f))
+        go None (Some y) m f = absurd (m.none (finite_cut f))
+        go None None m o = let c : r.count ≡ s.count = m.count_is ∙ sym o.count_is in let a : r.slots ≡ s.slots = m.kept ∙ sym o.kept in cc
 
     pub answers_exactly : (r : Outcome) → Fits r ↔ (r ≡ outcome l ids n before)
     answers_exactly r = (λ p. one_fits r (outcome l ids n before) p outcome_fits, λ e. subst Fits (sym e) outcome_fits)
 
     -- "NoPath": "no cut has a finite sum"
-    pub no_path_exactly : (r : Outcome) → Fits r → (r.best ≡ NoPath) ↔ (FiniteCut l n → ⊥)
+    pub no_path_exactly : (r : Outcome) → Fits r → (r.best ≡ None) ↔ (FiniteCut l n → ⊥)
     no_path_exactly r p = go r.best p
       where
-        go : (b : Best) → Answers l ids n before r.slots b r.count → (b ≡ NoPath) ↔ (FiniteCut l n → ⊥)
-        go (Score x) f = (λ e. let z : ◌≡◌ {A = ℕ} 0 1 = cc in absurd (omega arith), λ none. absurd (none (finite_cut f)))
-        go NoPath m = (λ e. m.none, λ none. refl)
+        go : (b : Option Float) → Answers l ids n before r.slots b r.count → (b ≡ None) ↔ (FiniteCut l n → ⊥)
+        go (Some x) f = (λ e. let z : ◌≡◌ {A = ℕ} 0 1 = cc in absurd (omega arith), λ none. absurd (none (finite_cut f)))
+        go None m = (λ e. m.none, λ none. refl)
 
   -- ---- what `excluding_core` answers is the best score of the cuts without the piece
   pub excluding_is : (piece : ℕ) (r : Float) → r ≡ best f64s (lattice_of offsets starts ids (without piece scores)) n → BestWithout l ids n piece r

@@ -1,10 +1,8 @@
 -- What the best cut answers: "the best cut is either a score or no path". Definitions only.
-use Rattle.std.specs.Prelude.{◌≡◌, List, ◌++◌, ℕ, ◌+◌, ◌<◌, length, drop, Float}
+use Rattle.std.specs.Prelude.{◌≡◌, List, ◌++◌, ℕ, ◌+◌, ◌<◌, length, drop, Float, Option, Some, None}
 use Rattle.scores.specs.Cuts.{Lattice, sum}
 use Rattle.scores.specs.Floats.{f64s}
 use Rattle.scores.specs.Best.{FiniteCut, BestCut}
-use Rattle.viterbi.specs.declared.Best.{Best}
-use Rattle.viterbi.specs.declared.Best.TheVariants.{Score, NoPath}
 use Rattle.viterbi.specs.Slices.{WellFormed, Scored}
 use Rattle.viterbi.specs.Walk.{spell}
 
@@ -33,6 +31,6 @@ pub record Missed (l : Lattice Float) (n : ℕ) (before after : List ℕ) (count
   pub count_is : count ≡ 0
   pub kept : after ≡ before
 
-abbrev pub Answers : Lattice Float → List ℕ → ℕ → List ℕ → List ℕ → Best → ℕ → Type 0
-Answers l ids n before after (Score score) count = Found l ids n before after score count
-Answers l ids n before after NoPath count = Missed l n before after count
+abbrev pub Answers : Lattice Float → List ℕ → ℕ → List ℕ → List ℕ → Option Float → ℕ → Type 0
+Answers l ids n before after (Some score) count = Found l ids n before after score count
+Answers l ids n before after None count = Missed l n before after count

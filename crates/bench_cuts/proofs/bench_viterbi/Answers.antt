@@ -2,4 +2,4 @@
 use Rattle.bench_cuts.proofs.bench_viterbi.Goals as goal
 
 pub returns : goal.returns
-returns c = record { answers = (c.viterbi_core-cutting.result.best, c.viterbi_core-cutting.ensures.answers); behind = c.viterbi_core-cutting.ensures.behind }
+returns c = record { answers = (c.viterbi_core.result.best, c.viterbi_core.ensures.answers); behind = c.viterbi_core.ensures.behind }

@@ -1,11 +1,8 @@
 use Rattle.builder.proofs.Starts.{upto}
 use lib.ListN.{length}
-use Prim.Native.Nat.{◌≤◌, ◌-◌}
+use Prim.Native.Nat.{◌≤◌}
 use mathlib.Core.Path.{◌≡◌}
 use Rattle.builder.proofs.count_end.Given as goal
 
 abbrev pub invariant-loop-start : goal.invariant-loop-start
-invariant-loop-start l = (l.end - l.setting ≤ l.start) × (l.start ≤ l.end) × (l.count ≡ length (upto l.setting l.grid l.end l.start)) × (l.count ≤ l.start)
-
-abbrev pub decreases-loop-start : goal.decreases-loop-start
-decreases-loop-start l = l.end - l.start
+invariant-loop-start l = (l.count ≡ length (upto l.setting l.grid l.end l.start)) × (l.count ≤ l.start)

@@ -1,9 +1,5 @@
 use Rattle.builder.proofs.Ends.{Ends}
-use Prim.Native.Nat.{◌+◌, ◌-◌}
 use Rattle.builder.proofs.put_word.Given as goal
 
 abbrev pub invariant-loop-end : goal.invariant-loop-end
 invariant-loop-end l = Ends l.setting l.grid l.initial.offsets l.initial.starts l.initial.ids l.n l.write l.offsets l.starts l.ids l.at l.end
-
-abbrev pub decreases-loop-end : goal.decreases-loop-end
-decreases-loop-end l = l.n + 1 - l.end

@@ -1,8 +1,5 @@
-use Rattle.cache.proofs.Bridge.{spans_fit, taken, has_room, pruned}
+use Rattle.cache.proofs.Bridge.{taken, has_room, pruned}
 use Rattle.cache.proofs.prune.Goals as goal
-
-pub offsets_before-ends-requires : goal.offsets_before-ends-requires
-offsets_before-ends-requires c = spans_fit _ _ _ _ _ _ c.requires
 
 pub retain_core-count-requires : goal.retain_core-count-requires
 retain_core-count-requires c = taken _ _ _ _ _ _ c.requires

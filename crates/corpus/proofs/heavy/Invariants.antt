@@ -1,12 +1,9 @@
--- `corpus::heavy` meets its contract: the sum so far, up to one above 2^48. The measure is what is left of the words.
+-- `corpus::heavy` meets its contract: the sum so far, up to one above 2^48.
 -- Assumes nothing.
-use Prim.Native.Nat.{◌-◌}
-use Rattle.corpus.specs.Corpus.{weight_at}
-use Rattle.corpus.proofs.Weights.{Summing}
+use Rattle.corpus.specs.Corpus.{weight_at, total}
+use Prim.Native.Nat.{min}
+use mathlib.Core.Path.{◌≡◌}
 use Rattle.corpus.proofs.heavy.Given as goal
 
 abbrev pub invariant-loop-k : goal.invariant-loop-k
-invariant-loop-k l = Summing (weight_at l.text l.words l.frequencies) l.many l.weight l.k
-
-abbrev pub decreases-loop-k : goal.decreases-loop-k
-decreases-loop-k l = l.many - l.k
+invariant-loop-k l = l.weight ≡ min (total (weight_at l.text l.words l.frequencies) l.k) 281474976710657

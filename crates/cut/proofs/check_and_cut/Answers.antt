@@ -1,18 +1,16 @@
-use Rattle.cut.proofs.Cutting.{refused_so, has_rooms}
-use Rattle.cut.specs.Checked.{Checks}
-use Rattle.cut.specs.Cut.{no_slots}
 use native.Mathlib.Omega.{arith}
-use mathlib.Core.Path.{refl, subst}
+use mathlib.Core.Path.{refl}
+use Rattle.std.proofs.lemmas.Result.{err_from_is_err_and}
+use Rattle.cut.proofs.Cutting.{refused_so, has_rooms}
+use Rattle.cut.specs.Cut.{no_slots}
 use Rattle.cut.proofs.check_and_cut.Goals as goal
 
-pub returns-then-path-n : goal.returns-then-path-n
-returns-then-path-n c = let o = (subst (Checks (record { offsets = c.args.offsets.now; starts = c.args.starts.now; ids = c.args.ids.now; n = c.args.n; scores = c.args.scores.now }) c.rooms-room.result) c.in-Fine.is c.check.ensures) in (no_slots o.formed o.scored (has_rooms (record { offsets = c.args.offsets.now; starts = c.args.starts.now; ids = c.args.ids.now; n = c.args.n; scores = c.args.scores.now }) c.args.best.now c.args.back.now c.args.path.now c.rooms-room.result c.rooms-room.ensures o) (omega arith), refl)
+pub returns-in_err-check : goal.returns-in_err-check
+returns-in_err-check c =
+    let p = err_from_is_err_and c.from_residual.result c.from_residual.ensures.1 in
+    rw (p.1, p.2) (refused_so _ c.args.best.now c.args.back.now c.args.path.now c.rooms.result c.rooms.ensures c.in_err-check.ensures, refl)
 
-pub cut_core-requires : goal.cut_core-requires
-cut_core-requires c = let o = (subst (Checks (record { offsets = c.args.offsets.now; starts = c.args.starts.now; ids = c.args.ids.now; n = c.args.n; scores = c.args.scores.now }) c.rooms-room.result) c.in-Fine.is c.check.ensures) in record { formed = o.formed; scored = o.scored; rooms = has_rooms (record { offsets = c.args.offsets.now; starts = c.args.starts.now; ids = c.args.ids.now; n = c.args.n; scores = c.args.scores.now }) c.args.best.now c.args.back.now c.args.path.now c.rooms-room.result c.rooms-room.ensures o; slots = omega arith }
-
-pub returns-in-Refused : goal.returns-in-Refused
-returns-in-Refused c = (refused_so (record { offsets = c.args.offsets.now; starts = c.args.starts.now; ids = c.args.ids.now; n = c.args.n; scores = c.args.scores.now }) c.args.best.now c.args.back.now c.args.path.now c.rooms-room.result c.rooms-room.ensures (subst (Checks (record { offsets = c.args.offsets.now; starts = c.args.starts.now; ids = c.args.ids.now; n = c.args.n; scores = c.args.scores.now }) c.rooms-room.result) c.in-Refused.is c.check.ensures), refl)
-
-pub returns-else-path-n : goal.returns-else-path-n
-returns-else-path-n c = c.cut_core.ensures
+pub returns-then-path-lattice : goal.returns-then-path-lattice
+returns-then-path-lattice c =
+    let o = c.in_ok-check.ensures in
+    (no_slots o.formed o.scored (has_rooms _ c.args.best.now c.args.back.now c.args.path.now c.rooms.result c.rooms.ensures o) (omega arith), refl)

@@ -1,11 +1,9 @@
-use Rattle.cut.proofs.Cutting.{asked, a_score, no_score}
+use mathlib.Core.Path.{sym}
+use Rattle.std.proofs.lemmas.Result.{err_from_is_err_and}
+use Rattle.cut.proofs.Cutting.{no_score}
 use Rattle.cut.proofs.cut_core.Goals as goal
 
-pub viterbi_core-cutting-requires : goal.viterbi_core-cutting-requires
-viterbi_core-cutting-requires c = record { asked = asked c.requires; n_in_bounds = c.requires.slots }
-
-pub returns-in-Score : goal.returns-in-Score
-returns-in-Score c = a_score c.requires c.viterbi_core-cutting.result.count c.viterbi_core-cutting.ensures.answers c.in-Score.is
-
-pub returns-in-NoPath : goal.returns-in-NoPath
-returns-in-NoPath c = no_score c.requires c.viterbi_core-cutting.result.count c.viterbi_core-cutting.ensures.answers c.in-NoPath.is
+pub returns-in_err-score : goal.returns-in_err-score
+returns-in_err-score c =
+    let p = err_from_is_err_and c.from_residual.result c.from_residual.ensures.1 in
+    rw (p.1, p.2) (no_score c.requires _ _ (sym c.in_err-score.ensures.value) c.viterbi_core-cutting.ensures.answers)

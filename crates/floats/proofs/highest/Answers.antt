@@ -1,9 +1,7 @@
--- `floats::highest` meets its contract.
--- Assumes nothing.
 use mathlib.Core.Path.{refl}
-use lib.Ieee.{div, neg, of_bits}
+use lib.Ieee.{of_bits}
 use Rattle.floats.proofs.highest.Goals as goal
 
 pub returns : goal.returns
-unfolding div neg of_bits
+unfolding of_bits
 returns c = refl

@@ -1,5 +1,4 @@
 use Rattle.fresh.proofs.Most.{small, product_small}
-use Rattle.fresh.proofs.Building.{ample_said}
 use native.Mathlib.Omega.{arith}
 use Rattle.fresh.proofs.ample.Goals as goal
 
@@ -8,6 +7,3 @@ overflow_mul-setting c = omega (arith, product_small c.requires.0 c.requires.1 c
 
 pub overflow_add-bytes : goal.overflow_add-bytes
 overflow_add-bytes c = omega (arith, small c.requires.0 c.all_bytes-bytes.ensures, c.requires.0.few, c.count-many.ensures)
-
-pub returns : goal.returns
-returns c = ample_said c.args.words.now c.args.setting (record { offsets = c.args.offsets.now; starts = c.args.starts.now; ids = c.args.ids.now; spans = c.args.spans.now }) c.fits.result c.count-many.ensures c.all_bytes-bytes.ensures c.fits.ensures

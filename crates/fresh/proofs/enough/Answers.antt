@@ -1,9 +1,6 @@
-use Rattle.fresh.proofs.Building.{listed_short, enough_ample, enough_counted}
+use Rattle.fresh.proofs.Building.{enough_ample, enough_counted}
 use Rattle.laws.proofs.Tests.{said_yes}
 use Rattle.fresh.proofs.enough.Goals as goal
-
-pub ample-requires : goal.ample-requires
-ample-requires c = (listed_short c.requires.1, c.requires.0.narrow)
 
 pub returns-then-ample : goal.returns-then-ample
 returns-then-ample c = enough_ample c.args.keys.now c.args.ends.now c.args.text.now c.args.words.now c.args.setting (record { offsets = c.args.offsets.now; starts = c.args.starts.now; ids = c.args.ids.now; spans = c.args.spans.now }) c.requires.1 (said_yes c.ample.result c.if-ample.true c.ample.ensures)

@@ -1,19 +1,14 @@
 use Rattle.fresh.specs.Slots.{Room, Cleared}
-use Rattle.fresh.proofs.Building.{walk_room, lay_refused, lay_building, lay_room, lay_laid}
-use borrow.Author.Tests.{not-true, not-false}
-use native.Mathlib.Omega.{arith}
+use Rattle.fresh.proofs.Building.{lay_building, lay_room, lay_laid}
 use Prim.Native.Nat.{ℕ}
-use mathlib.Core.Path.{refl, sym, subst}
+use mathlib.Core.Path.{sym, subst}
 use Rattle.fresh.proofs.lay.Goals as goal
 
-pub returns-then-not-enough : goal.returns-then-not-enough
-returns-then-not-enough c = lay_refused c.requires (record { offsets = c.args.offsets.now; starts = c.args.starts.now; ids = c.args.ids.now; spans = c.args.spans.now }) c.enough.result c.enough.ensures refl (not-true c.enough.result c.if-not-enough.true-raw)
-
-pub build_words-all-requires : goal.build_words-all-requires
-build_words-all-requires c = record { room = walk_room c.requires (omega arith) (omega arith); building = lay_building c.requires (record { offsets = c.args.offsets.now; starts = c.args.starts.now; ids = c.args.ids.now; spans = c.args.spans.now }) c.enough.result c.enough.ensures (not-false c.enough.result c.if-not-enough.false-raw) }
+pub build_words-all-requires-clause-building : goal.build_words-all-requires-clause-building
+build_words-all-requires-clause-building c = lay_building c.requires (record { offsets = c.args.offsets.now; starts = c.args.starts.now; ids = c.args.ids.now; spans = c.args.spans.now }) c.enough.result c.enough.ensures c.if-not-enough.false
 
 pub clear-requires : goal.clear-requires
-clear-requires c = subst (λ (n : ℕ). Room c.build_words-all.new.offsets c.build_words-all.new.starts c.build_words-all.new.ids c.build_words-all.new.spans c.build_words-all.result.ends c.build_words-all.result.edges n) (sym c.count-many.ensures) (lay_room c.requires (record { offsets = c.args.offsets.now; starts = c.args.starts.now; ids = c.args.ids.now; spans = c.args.spans.now }) c.enough.result c.enough.ensures (not-false c.enough.result c.if-not-enough.false-raw) c.build_words-all.ensures)
+clear-requires c = subst (λ (n : ℕ). Room c.build_words-all.new.offsets c.build_words-all.new.starts c.build_words-all.new.ids c.build_words-all.new.spans c.build_words-all.result.ends c.build_words-all.result.edges n) (sym c.count-many.ensures) (lay_room c.requires (record { offsets = c.args.offsets.now; starts = c.args.starts.now; ids = c.args.ids.now; spans = c.args.spans.now }) c.enough.result c.enough.ensures c.if-not-enough.false c.build_words-all.ensures)
 
 pub returns : goal.returns
-returns c = lay_laid c.requires (record { offsets = c.args.offsets.now; starts = c.args.starts.now; ids = c.args.ids.now; spans = c.args.spans.now }) c.enough.result c.enough.ensures (not-false c.enough.result c.if-not-enough.false-raw) c.build_words-all.ensures (record { offsets = c.clear.new.offsets; starts = c.clear.new.starts; ids = c.clear.new.ids; spans = c.clear.new.spans }) c.build_words-all.auto.offsets c.build_words-all.auto.starts c.build_words-all.auto.ids c.build_words-all.auto.spans (subst (λ (n : ℕ). Cleared c.build_words-all.new.offsets c.build_words-all.new.starts c.build_words-all.new.ids c.build_words-all.new.spans c.build_words-all.result.ends c.build_words-all.result.edges n c.clear.new.offsets c.clear.new.starts c.clear.new.ids c.clear.new.spans) c.count-many.ensures c.clear.ensures)
+returns c = lay_laid c.requires (record { offsets = c.args.offsets.now; starts = c.args.starts.now; ids = c.args.ids.now; spans = c.args.spans.now }) c.enough.result c.enough.ensures c.if-not-enough.false c.build_words-all.ensures (record { offsets = c.clear.new.offsets; starts = c.clear.new.starts; ids = c.clear.new.ids; spans = c.clear.new.spans }) c.build_words-all.auto.offsets c.build_words-all.auto.starts c.build_words-all.auto.ids c.build_words-all.auto.spans (subst (λ (n : ℕ). Cleared c.build_words-all.new.offsets c.build_words-all.new.starts c.build_words-all.new.ids c.build_words-all.new.spans c.build_words-all.result.ends c.build_words-all.result.edges n c.clear.new.offsets c.clear.new.starts c.clear.new.ids c.clear.new.spans) c.count-many.ensures c.clear.ensures)

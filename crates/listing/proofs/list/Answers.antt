@@ -1,32 +1,35 @@
-use Rattle.listing.proofs.Listing.{few, spans_in, counts_in, asked, exceeds, lists}
-use Rattle.settings.specs.Settings.{target_of, pool_of}
-use Rattle.seed.specs.Seed.{slots_of}
-use lib.Seq.{length-take-le}
-use native.Mathlib.Omega.{arith}
-use Prim.Native.Nat.{◌*◌}
+-- `listing::list` meets its contract: the list is of the words that were kept.
+-- Assumes nothing.
 use mathlib.Core.Path.{refl, sym, ap, ◌∙◌}
+use Prim.Native.Nat.{ℕ, ◌*◌}
+use native.Mathlib.Omega.{arith}
+use lib.Seq.{length-take-le}
+use Rattle.settings.specs.Settings.{target_of, pool_of}
+use Rattle.listing.proofs.Listing.{few, spans_in, counts_in, corpus_is, asked}
 use Rattle.listing.proofs.list.Goals as goal
 
 pub overflow_mul-numbers : goal.overflow_mul-numbers
-overflow_mul-numbers c = omega (arith, few c.args.settings c.args.text.now c.args.words.now c.args.frequencies.now c.args.kept.now c.args.counts.now c.args.chars.now c.args.places.now c.args.order.now c.args.work.now c.args.ranks.now c.requires c.utf8_words-many.ensures c.utf8_words-many.auto.kept c.utf8_words-many.auto.counts, c.requires.bounded.few_words)
+overflow_mul-numbers c = omega (arith, few c.requires c.utf8_words-many.ensures c.utf8_words-many.auto.kept c.utf8_words-many.auto.counts, c.requires.bounded.few_words)
 
 pub slice_bounds-seed-end : goal.slice_bounds-seed-end
-slice_bounds-seed-end c = spans_in c.args.settings c.args.text.now c.args.words.now c.args.frequencies.now c.args.kept.now c.args.counts.now c.args.chars.now c.args.places.now c.args.order.now c.args.work.now c.args.ranks.now c.requires c.utf8_words-many.ensures c.utf8_words-many.auto.kept c.utf8_words-many.auto.counts
+slice_bounds-seed-end c = spans_in c.requires c.utf8_words-many.ensures c.utf8_words-many.auto.kept c.utf8_words-many.auto.counts
 
 pub slice_bounds-seed-end-2 : goal.slice_bounds-seed-end-2
-slice_bounds-seed-end-2 c = sym (length-take-le (2 * c.utf8_words-many.result) c.utf8_words-many.new.kept (spans_in c.args.settings c.args.text.now c.args.words.now c.args.frequencies.now c.args.kept.now c.args.counts.now c.args.chars.now c.args.places.now c.args.order.now c.args.work.now c.args.ranks.now c.requires c.utf8_words-many.ensures c.utf8_words-many.auto.kept c.utf8_words-many.auto.counts))
+slice_bounds-seed-end-2 c = sym (length-take-le (2 * c.utf8_words-many.result) c.utf8_words-many.new.kept (spans_in c.requires c.utf8_words-many.ensures c.utf8_words-many.auto.kept c.utf8_words-many.auto.counts))
 
 pub slice_bounds-seed-end-3 : goal.slice_bounds-seed-end-3
-slice_bounds-seed-end-3 c = counts_in c.args.settings c.args.text.now c.args.words.now c.args.frequencies.now c.args.kept.now c.args.counts.now c.args.chars.now c.args.places.now c.args.order.now c.args.work.now c.args.ranks.now c.requires c.utf8_words-many.ensures c.utf8_words-many.auto.kept c.utf8_words-many.auto.counts
-
-pub slice_bounds-seed-end-4 : goal.slice_bounds-seed-end-4
-slice_bounds-seed-end-4 c = sym (length-take-le c.utf8_words-many.result c.utf8_words-many.new.counts (counts_in c.args.settings c.args.text.now c.args.words.now c.args.frequencies.now c.args.kept.now c.args.counts.now c.args.chars.now c.args.places.now c.args.order.now c.args.work.now c.args.ranks.now c.requires c.utf8_words-many.ensures c.utf8_words-many.auto.kept c.utf8_words-many.auto.counts))
+slice_bounds-seed-end-3 c = counts_in c.requires c.utf8_words-many.ensures c.utf8_words-many.auto.kept c.utf8_words-many.auto.counts
 
 pub seed-requires : goal.seed-requires
-seed-requires c = asked c.args.settings c.args.text.now c.args.words.now c.args.frequencies.now c.args.kept.now c.args.counts.now c.args.chars.now c.args.places.now c.args.order.now c.args.work.now c.args.ranks.now c.requires c.utf8_words-many.ensures c.utf8_words-many.auto.kept c.utf8_words-many.auto.counts
+seed-requires c = asked c.requires c.utf8_words-many.ensures c.utf8_words-many.auto.kept c.utf8_words-many.auto.counts
 
-pub returns-in-NoRoom : goal.returns-in-NoRoom
-returns-in-NoRoom c = (refl, exceeds c.args.settings c.args.text.now c.args.words.now c.args.frequencies.now c.args.kept.now c.args.counts.now c.args.chars.now c.args.places.now c.args.order.now c.args.work.now c.args.ranks.now c.requires c.utf8_words-many.ensures c.utf8_words-many.auto.kept c.utf8_words-many.auto.counts c.args.settings.min_frequency c.pool-pool.result (pool_of c.args.settings (target_of c.args.settings c.args.specials)) (slots_of c.args.pieces.now c.args.tallies.now c.args.scores.now c.args.order.now c.args.work.now c.args.ranks.now) c.seed.new.pieces c.seed.new.counts c.seed.new.scores (c.pool-pool.ensures ∙ ap (pool_of c.args.settings) c.target.ensures) c.seed.result c.seed.ensures c.in-NoRoom.is)
+pub returns-in_default : goal.returns-in_default
+returns-in_default c =
+    let e = corpus_is c.requires c.utf8_words-many.ensures c.utf8_words-many.auto.kept c.utf8_words-many.auto.counts in
+    (refl, rw e at c.in_default.ensures)
 
-pub returns-in-Listed : goal.returns-in-Listed
-returns-in-Listed c = (c.utf8_words-many.ensures, lists c.args.settings c.args.text.now c.args.words.now c.args.frequencies.now c.args.kept.now c.args.counts.now c.args.chars.now c.args.places.now c.args.order.now c.args.work.now c.args.ranks.now c.requires c.utf8_words-many.ensures c.utf8_words-many.auto.kept c.utf8_words-many.auto.counts c.args.settings.min_frequency c.pool-pool.result (pool_of c.args.settings (target_of c.args.settings c.args.specials)) (slots_of c.args.pieces.now c.args.tallies.now c.args.scores.now c.args.order.now c.args.work.now c.args.ranks.now) c.seed.new.pieces c.seed.new.counts c.seed.new.scores (c.pool-pool.ensures ∙ ap (pool_of c.args.settings) c.target.ensures) c.seed.result c.seed.ensures c.in-Listed.required c.in-Listed.listed c.in-Listed.is)
+pub returns : goal.returns
+returns c =
+    let e = corpus_is c.requires c.utf8_words-many.ensures c.utf8_words-many.auto.kept c.utf8_words-many.auto.counts in
+    let p = c.pool-pool.ensures ∙ ap (λ (n : ℕ). pool_of c.args.lent.now.settings n) (c.target-target.ensures ∙ ap (λ (n : ℕ). target_of c.args.lent.now.settings n) c.count.ensures) in
+    (c.utf8_words-many.ensures, rw (e, p) at c.in-Some.ensures)

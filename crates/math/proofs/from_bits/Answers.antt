@@ -1,23 +1,17 @@
 -- `math::from_bits` meets its contract: a NaN's pattern lies above infinity's, its sign left off. Assumes nothing.
-use mathlib.Core.Path.{◌≡◌, refl, sym, ◌∙◌, subst}
+use mathlib.Core.Path.{◌≡◌, sym, ◌∙◌, subst}
 use Prim.Native.Nat.{ℕ, ◌%◌, ◌<◌, ◌≤◌}
 use native.Mathlib.Nat.{not-le_of_lt}
 use mathlib.Core.Bool.{Bool, not}
 use borrow.Author.Rules.{rules}
 use lib.Dec.{T, ltb, ltb→lt, lt→ltb, not_T}
-use lib.Ieee.{Float, nan, inf, fin, binary64, is_nan, nan_bits, of_bits}
+use lib.Ieee.{nan, binary64, nan_bits, of_bits}
 use lib.Ieee.Bits.{nan_bits_is, nan_bits_above}
-use Rattle.math.proofs.Tests.{no_number}
+use Rattle.math.proofs.Tests.{nan_is, no_number}
 use Rattle.math.proofs.from_bits.Goals as goal
 
-is_nan_lem : (x : Float) → T (is_nan x) → x ≡ nan
-unfolding is_nan
-is_nan_lem nan h = refl
-is_nan_lem (inf s) h = absurd h
-is_nan_lem (fin s m e) h = absurd h
-
 above : (b : ℕ) → 0x7ff0_0000_0000_0000 < b % 0x8000_0000_0000_0000 → nan ≡ of_bits binary64 b
-above b h = sym (is_nan_lem (of_bits binary64 b) (subst T (nan_bits_is binary64 b) (subst T (sym (nan_bits_above binary64 b)) (lt→ltb 0x7ff0_0000_0000_0000 (b % 0x8000_0000_0000_0000) h))))
+above b h = sym (nan_is (of_bits binary64 b) (subst T (nan_bits_is binary64 b) (subst T (sym (nan_bits_above binary64 b)) (lt→ltb 0x7ff0_0000_0000_0000 (b % 0x8000_0000_0000_0000) h))))
 
 under : (b : ℕ) → b % 0x8000_0000_0000_0000 ≤ 0x7ff0_0000_0000_0000 → T (not (nan_bits binary64 b))
 under b h = subst (λ (t : Bool). T (not t)) (sym (nan_bits_above binary64 b)) (not_T (ltb 0x7ff0_0000_0000_0000 (b % 0x8000_0000_0000_0000)) (λ (t : T (ltb 0x7ff0_0000_0000_0000 (b % 0x8000_0000_0000_0000))). not-le_of_lt (ltb→lt 0x7ff0_0000_0000_0000 (b % 0x8000_0000_0000_0000) t) h))

@@ -1,11 +1,7 @@
 -- `math::ln` meets its contract: its tests are the definition's. Assumes nothing.
 use Rattle.math.specs.Steps.{ln_steps}
-use Rattle.laws.proofs.Choices.{yes}
 use Rattle.math.proofs.Tests.{under_zero, no_number}
 use Rattle.math.proofs.ln.Goals as goal
-
-pub ln_positive-requires : goal.ln_positive-requires
-ln_positive-requires c = yes c.if-x.true
 
 pub returns-then-x : goal.returns-then-x
 unfolding ln_steps

@@ -1,10 +1,6 @@
 -- `math::ln_1p` meets its contract: its tests are the definition's. Assumes nothing.
 use Rattle.math.specs.Steps.{ln1p_steps}
-use Rattle.laws.proofs.Choices.{yes}
 use Rattle.math.proofs.ln_1p.Goals as goal
-
-pub ln_1p_unit-requires : goal.ln_1p_unit-requires
-ln_1p_unit-requires c = record { t = yes c.if-y.true; t_2 = yes c.if-y-2.true }
 
 pub returns-then-y-2 : goal.returns-then-y-2
 unfolding ln1p_steps

@@ -1,21 +1,18 @@
 use native.Mathlib.Omega.{arith}
-use Rattle.one_word.proofs.Spans.{inside}
-use Rattle.one_word.proofs.Checking.{told_fine, told_refused, bad_at, missing_at, in_order}
-use lib.Seq.{length-take-le}
-use mathlib.Core.Path.{sym}
+use Rattle.std.proofs.lemmas.Result.{err_from_is_err_and}
+use Rattle.one_word.proofs.Checking.{refused_so, bad_at, missing_at, in_order}
 use Rattle.one_word.proofs.check.Goals as goal
 
-pub slice_bounds-check-end : goal.slice_bounds-check-end
-slice_bounds-check-end c = sym (length-take-le c.args.bytes c.args.word.now (inside c.requires))
+pub returns-in_err-check : goal.returns-in_err-check
+returns-in_err-check c =
+    let p = err_from_is_err_and c.from_residual.result c.from_residual.ensures.1 in
+    rw (p.1, p.2) (refused_so _ c.requires c.in_err-check.ensures)
+
+pub returns-in-Err : goal.returns-in-Err
+returns-in-Err c = bad_at _ c.requires c.in_ok-check.ensures c.in-Err.ensures
 
 pub returns-then-scores-count : goal.returns-then-scores-count
-returns-then-scores-count c = missing_at (record { setting = c.args.setting; word = c.args.word.now; spellings = c.args.spellings.now; pieces = c.args.pieces.now; scores = c.args.scores.now }) c.requires (told_fine (record { setting = c.args.setting; word = c.args.word.now; spellings = c.args.spellings.now; pieces = c.args.pieces.now; scores = c.args.scores.now }) c.requires c.check.result c.in-Fine.is c.check.ensures) c.check_scores.result c.in-Fine-check_scores.is c.check_scores.ensures (let e = c.count.ensures in omega arith)
+returns-then-scores-count c = missing_at _ c.requires c.in_ok-check.ensures c.in_default.ensures (let e = c.count.ensures in omega arith)
 
-pub returns-in-Refused : goal.returns-in-Refused
-returns-in-Refused c = told_refused (record { setting = c.args.setting; word = c.args.word.now; spellings = c.args.spellings.now; pieces = c.args.pieces.now; scores = c.args.scores.now }) c.requires c.check.result c.in-Refused.refusal c.in-Refused.is c.check.ensures
-
-pub returns-in-BadAt : goal.returns-in-BadAt
-returns-in-BadAt c = bad_at (record { setting = c.args.setting; word = c.args.word.now; spellings = c.args.spellings.now; pieces = c.args.pieces.now; scores = c.args.scores.now }) c.requires (told_fine (record { setting = c.args.setting; word = c.args.word.now; spellings = c.args.spellings.now; pieces = c.args.pieces.now; scores = c.args.scores.now }) c.requires c.check.result c.in-Fine.is c.check.ensures) c.check_scores.result c.in-BadAt.id c.in-BadAt.is c.check_scores.ensures
-
-pub returns-else-scores-count : goal.returns-else-scores-count
-returns-else-scores-count c = in_order (record { setting = c.args.setting; word = c.args.word.now; spellings = c.args.spellings.now; pieces = c.args.pieces.now; scores = c.args.scores.now }) c.requires (told_fine (record { setting = c.args.setting; word = c.args.word.now; spellings = c.args.spellings.now; pieces = c.args.pieces.now; scores = c.args.scores.now }) c.requires c.check.result c.in-Fine.is c.check.ensures) c.check_scores.result c.in-Fine-check_scores.is c.check_scores.ensures (let e = c.count.ensures in omega arith)
+pub returns : goal.returns
+returns c = in_order _ c.requires c.in_ok-check.ensures c.in_default.ensures (let e = c.count.ensures in omega arith)

@@ -1,6 +1,6 @@
 -- `places::home` meets its contract: the wrapping add of the two products is `mixed`.
 -- Assumes nothing.
-use Rattle.std.proofs.Common.{ℕ, ◌*◌, ◌/◌, ◌%◌, ◌<◌, ◌≤◌, ap, mul-le-mul_right, mod-lt, arith, lit<}
+use Rattle.std.proofs.Common.{rules, ℕ, ◌*◌, ◌%◌, ◌<◌, ◌≤◌, mul-le-mul_right, mod-lt, arith, lit<}
 use Rattle.places.specs.Walk.{mixed, home_of}
 use Rattle.places.proofs.home.Goals as goal
 
@@ -8,8 +8,9 @@ product : (a b : ℕ) → a < 4294967296 → b ≤ 4294967295 → a * b < 184467
 product a b h k = let l : a * b ≤ 4294967296 * b = mul-le-mul_right b (omega arith) in omega arith
 
 pub overflow_mul-result : goal.overflow_mul-result
-overflow_mul-result c = omega (arith, product (c.wrapping_add_u64-mixed.result % 4294967296) c.args.places (mod-lt c.wrapping_add_u64-mixed.result (lit< tt)) c.requires)
+unfolding mixed
+overflow_mul-result c = omega (arith, product (mixed c.args.key % 4294967296) c.args.places (mod-lt (mixed c.args.key) (lit< tt)) c.requires)
 
 pub returns : goal.returns
 unfolding mixed home_of
-returns c = ap (λ (x : ℕ). x % 4294967296 * c.args.places / 4294967296) c.wrapping_add_u64-mixed.ensures.value
+returns c = search rules

@@ -3,8 +3,8 @@
 use Rattle.places.proofs.Ways.{room_never, room_test}
 use Rattle.places.proofs.room.Goals as goal
 
-pub returns-then-half-lt2 : goal.returns-then-half-lt2
-returns-then-half-lt2 c = room_never _ _ c.if-half-lt2.true
+pub returns-then-half-ge2 : goal.returns-then-half-ge2
+returns-then-half-ge2 c = room_test _ _ c.if-half-ge2.true
 
-pub returns : goal.returns
-returns c = room_test _ _ c.if-half-lt2.false
+pub returns-else-half-ge2 : goal.returns-else-half-ge2
+returns-else-half-ge2 c = room_never _ _ c.if-half-ge2.false

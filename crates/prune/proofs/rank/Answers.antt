@@ -8,4 +8,4 @@ pub sort-requires : goal.sort-requires
 sort-requires c = rank_call c.requires c.turn.ensures c.fill_ids.ensures
 
 pub returns : goal.returns
-returns c = rank_done c.requires c.turn.ensures c.fill_ids.ensures (λ i h. omega (arith, c.slice_known-1.given i)) c.sort.ensures
+returns c = rank_done c.requires c.turn.ensures c.fill_ids.ensures (λ i h. grind arith) c.sort.ensures

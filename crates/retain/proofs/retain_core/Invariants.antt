@@ -1,8 +1,6 @@
 -- `retain::retain_core` meets its contract. The invariant: whatever lattices the slices held, the first of them, as many as the words so far, stand pruned over the fronts.
--- The measure is how many words are left.
 -- Assumes nothing.
 use mathlib.Core.List.{List}
-use Prim.Native.Nat.{◌≤◌, ◌-◌}
 use lib.ListN.{take}
 use Rattle.lattice.specs.Lattice.{Edge}
 use Rattle.lattice.specs.Pruning.{retained}
@@ -12,7 +10,4 @@ use Rattle.retain.proofs.retain_core.Given as goal
 
 abbrev pub invariant-loop-word : goal.invariant-loop-word
 invariant-loop-word l =
-    (l.word ≤ l.words) × ((lattices : List (List (List Edge))) → Laid l.words l.remap l.initial.offsets l.initial.starts l.initial.ids l.initial.spans lattices → Written (retained l.remap (take l.word lattices)) l.initial.offsets l.initial.starts l.initial.ids l.initial.spans l.offsets l.starts l.ids l.spans l.write)
-
-abbrev pub decreases-loop-word : goal.decreases-loop-word
-decreases-loop-word l = l.words - l.word
+    ((lattices : List (List (List Edge))) → Laid l.words l.remap l.initial.offsets l.initial.starts l.initial.ids l.initial.spans lattices → Written (retained l.remap (take l.word lattices)) l.initial.offsets l.initial.starts l.initial.ids l.initial.spans l.offsets l.starts l.ids l.spans l.write)

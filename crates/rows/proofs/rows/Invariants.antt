@@ -1,5 +1,4 @@
 use Rattle.rows.proofs.Steps.{Outer, Inner}
-use lib.ListN.{length}
 use Prim.Native.Nat.{◌-◌}
 use Rattle.rows.proofs.rows.Given as goal
 
@@ -11,6 +10,3 @@ decreases-loop-step l = l.most - l.step
 
 abbrev pub invariant-loop-start : goal.invariant-loop-start
 invariant-loop-start l = Outer l.keys l.ends l.chars l.setting l.initial.grid l.grid l.start
-
-abbrev pub decreases-loop-start : goal.decreases-loop-start
-decreases-loop-start l = length l.chars - l.start

@@ -1,14 +1,8 @@
-use Rattle.spans.proofs.Judged.{judged_good, judged_bad}
-use mathlib.Core.Path.{refl, sym, ◌∙◌}
-use Prim.Native.Nat.{◌+◌, ◌*◌}
+use Rattle.spans.proofs.Judged.{judged}
 use native.Mathlib.Omega.{arith}
+use mathlib.Core.Path.{ap, ◌∙◌}
+use Rattle.utf8.specs.Chars.{measured}
 use Rattle.spans.proofs.good.Goals as goal
 
-pub overflow_add-high : goal.overflow_add-high
-overflow_add-high c = omega (arith, c.shared_slice_known-2-1.given (2 * c.args.k), c.shared_slice_known-2-1.given (2 * c.args.k + 1), c.from-low.ensures, c.bytes-long.ensures)
-
-pub returns-in-Chars : goal.returns-in-Chars
-returns-in-Chars c = judged_good c.args.text.now c.args.spans.now c.args.most c.args.k c.from-low.result c.bytes-long.result _ c.from-low.ensures c.bytes-long.ensures refl (omega arith) (omega arith) (sym c.measure.ensures ∙ c.in-Chars.is)
-
-pub returns-in-BadAt : goal.returns-in-BadAt
-returns-in-BadAt c = judged_bad c.args.text.now c.args.spans.now c.args.most c.args.k c.from-low.result c.bytes-long.result _ c.from-low.ensures c.bytes-long.ensures refl (sym c.measure.ensures ∙ c.in-BadAt.is)
+pub returns : goal.returns
+returns c = rw c.is_ok.ensures.value (judged c.args.text.now c.args.spans.now c.args.most c.args.k (omega arith) (omega arith) c.measure.result (c.measure.ensures ∙ ap measured c.octets.ensures))

@@ -1,11 +1,19 @@
-use Rattle.listing.proofs.Checking.{fit, refused, listing, listed}
+-- `start::check_and_list` meets its contract: the room that was counted is the room there is.
+-- Assumes nothing.
+use Rattle.std.proofs.lemmas.Result.{err_from_is_err_and}
+use Rattle.listing.specs.Start.{bad}
+use Rattle.listing.proofs.Checking.{listed}
 use Rattle.start.proofs.check_and_list.Goals as goal
 
+pub returns-in_err-check : goal.returns-in_err-check
+returns-in_err-check c =
+    let p = err_from_is_err_and c.from_residual.result c.from_residual.ensures.1 in
+    rw (p.1, p.2) (bad (rw c.positions-room.ensures at c.in_err-check.ensures))
+
 pub list-requires : goal.list-requires
-list-requires c = listing (record { settings = c.args.settings; texts = c.args.texts.now; specials = c.args.specials.now; text = c.args.text.now; words = c.args.words.now; frequencies = c.args.frequencies.now }) (record { kept = c.args.kept.now; counts = c.args.counts.now; chars = c.args.chars.now; places = c.args.places.now; order = c.args.order.now; work = c.args.work.now; ranks = c.args.ranks.now; pieces = c.args.pieces.now; tallies = c.args.tallies.now; scores = c.args.scores.now; table = c.args.table.now }) c.requires (fit (record { settings = c.args.settings; texts = c.args.texts.now; specials = c.args.specials.now; text = c.args.text.now; words = c.args.words.now; frequencies = c.args.frequencies.now }) (record { kept = c.args.kept.now; counts = c.args.counts.now; chars = c.args.chars.now; places = c.args.places.now; order = c.args.order.now; work = c.args.work.now; ranks = c.args.ranks.now; pieces = c.args.pieces.now; tallies = c.args.tallies.now; scores = c.args.scores.now; table = c.args.table.now }) c.positions-room.result c.positions-room.ensures c.check.result c.check.ensures c.in-Fine.is)
+list-requires c =
+    let f = rw c.positions-room.ensures at c.in_ok-check.ensures in
+    record { short = f.settings_fit.length_within; paired = c.requires; table = c.args.table.now; bounded = f.room; words_fit = f.words_fit }
 
-pub returns-in-Refused : goal.returns-in-Refused
-returns-in-Refused c = refused (record { settings = c.args.settings; texts = c.args.texts.now; specials = c.args.specials.now; text = c.args.text.now; words = c.args.words.now; frequencies = c.args.frequencies.now }) (record { kept = c.args.kept.now; counts = c.args.counts.now; chars = c.args.chars.now; places = c.args.places.now; order = c.args.order.now; work = c.args.work.now; ranks = c.args.ranks.now; pieces = c.args.pieces.now; tallies = c.args.tallies.now; scores = c.args.scores.now; table = c.args.table.now }) c.positions-room.result c.positions-room.ensures c.check.result c.check.ensures c.in-Refused.refusal c.in-Refused.is
-
-pub returns-in-Fine : goal.returns-in-Fine
-returns-in-Fine c = listed (record { settings = c.args.settings; texts = c.args.texts.now; specials = c.args.specials.now; text = c.args.text.now; words = c.args.words.now; frequencies = c.args.frequencies.now }) (record { kept = c.args.kept.now; counts = c.args.counts.now; chars = c.args.chars.now; places = c.args.places.now; order = c.args.order.now; work = c.args.work.now; ranks = c.args.ranks.now; pieces = c.args.pieces.now; tallies = c.args.tallies.now; scores = c.args.scores.now; table = c.args.table.now }) (record { kept = c.list.new.kept; counts = c.list.new.counts; pieces = c.list.new.pieces; tallies = c.list.new.tallies; scores = c.list.new.scores }) c.count.result c.count.ensures (fit (record { settings = c.args.settings; texts = c.args.texts.now; specials = c.args.specials.now; text = c.args.text.now; words = c.args.words.now; frequencies = c.args.frequencies.now }) (record { kept = c.args.kept.now; counts = c.args.counts.now; chars = c.args.chars.now; places = c.args.places.now; order = c.args.order.now; work = c.args.work.now; ranks = c.args.ranks.now; pieces = c.args.pieces.now; tallies = c.args.tallies.now; scores = c.args.scores.now; table = c.args.table.now }) c.positions-room.result c.positions-room.ensures c.check.result c.check.ensures c.in-Fine.is) c.list.result c.list.ensures
+pub returns : goal.returns
+returns c = listed _ _ _ (rw c.positions-room.ensures at c.in_ok-check.ensures) c.list.result c.list.ensures

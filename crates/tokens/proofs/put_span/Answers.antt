@@ -1,7 +1,7 @@
--- `tokens::put_span` meets its contract.
+-- `tokens::put_span` meets its contract: a token's bytes are as many as its span says.
 -- Assumes nothing.
-use Rattle.tokens.proofs.Turns.{put_done}
+use Rattle.tokens.proofs.Turns.{put_asked}
 use Rattle.tokens.proofs.put_span.Goals as goal
 
-pub returns : goal.returns
-returns c = put_done c.requires c.from-low.ensures c.bytes-long.ensures c.put.ensures
+pub put-requires : goal.put-requires
+put-requires c = put_asked c.requires c.octets.ensures

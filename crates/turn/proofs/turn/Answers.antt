@@ -1,8 +1,9 @@
+use Rattle.shrink.specs.Lent.{slices_of}
 use Rattle.turn.proofs.Turned.{improving_next, turned}
 use Rattle.turn.proofs.turn.Goals as goal
 
-pub improve-requires : goal.improve-requires
-improve-requires c = improving_next _ _ _ _ _ _ _ _ (record { pieces = c.args.pieces.now; scores = c.args.scores.now; offsets = c.args.offsets.now; starts = c.args.starts.now; ids = c.args.ids.now; spans = c.args.spans.now }) _ _ _ _ _ _ c.requires (record { pieces = c.shrink-so.new.pieces; scores = c.shrink-so.new.scores; offsets = c.shrink-so.new.offsets; starts = c.shrink-so.new.starts; ids = c.shrink-so.new.ids; spans = c.shrink-so.new.spans }) c.shrink-so.result c.shrink-so.ensures _ c.shrink-so.auto.used
+pub improve_state-requires : goal.improve_state-requires
+improve_state-requires c = improving_next _ _ _ _ _ _ _ _ (slices_of c.args.state.now) _ _ _ _ _ _ c.requires (slices_of c.shrink-so.new.state) _ c.shrink-so.ensures.shrinks _ c.shrink-so.ensures.same_work.expected_long
 
-pub returns : goal.returns
-returns c = turned _ _ _ _ _ _ _ _ (record { pieces = c.args.pieces.now; scores = c.args.scores.now; offsets = c.args.offsets.now; starts = c.args.starts.now; ids = c.args.ids.now; spans = c.args.spans.now }) _ _ _ _ _ _ c.requires (record { pieces = c.shrink-so.new.pieces; scores = c.shrink-so.new.scores; offsets = c.shrink-so.new.offsets; starts = c.shrink-so.new.starts; ids = c.shrink-so.new.ids; spans = c.shrink-so.new.spans }) c.shrink-so.result c.shrink-so.ensures _ c.improve.new.scores c.improve.ensures
+pub returns-clause-turns : goal.returns-clause-turns
+returns-clause-turns c = rw c.improve_state.ensures.scores_alone (turned _ _ _ _ _ _ _ _ (slices_of c.args.state.now) _ _ _ _ _ _ c.requires (slices_of c.shrink-so.new.state) _ c.shrink-so.ensures.shrinks _ _ c.improve_state.ensures.improves)

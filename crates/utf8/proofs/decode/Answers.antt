@@ -1,13 +1,9 @@
--- `utf8::decode` meets its contract: past the end, an ASCII byte, or the class that the table gives.
+-- `utf8::decode` meets its contract: its table is right.
 -- Assumes nothing.
-use Rattle.utf8.proofs.Position.{at_end, ascii, of_class as by_class_lem}
+use mathlib.Core.Path.{◌∙◌}
+use native.Mathlib.Omega.{arith}
+use Rattle.utf8.proofs.Classed.{by_right_at}
 use Rattle.utf8.proofs.decode.Goals as goal
 
-pub returns-then-text-at : goal.returns-then-text-at
-returns-then-text-at c = at_end _ _ c.if-text-at.true
-
-pub returns-then-byte-lt128 : goal.returns-then-byte-lt128
-returns-then-byte-lt128 c = ascii _ _ c.if-text-at.false c.if-byte-lt128.true _ c.wide.ensures
-
 pub returns : goal.returns
-returns c = by_class_lem _ _ c.if-text-at.false _ c.class_of.ensures _ c.of_class.ensures
+returns c = c.decode_by.ensures ∙ by_right_at c.classes.ensures c.args.text.now c.args.at (omega (arith, c.type_inv.text c.args.at))

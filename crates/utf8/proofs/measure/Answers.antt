@@ -1,23 +1,28 @@
-use mathlib.Core.Path.{◌≡◌, ◌∙◌, sym}
+use mathlib.Core.Path.{◌≡◌, ◌∙◌, sym, ap}
 use native.Mathlib.Omega.{arith}
 use lib.ListN.{drop}
-use Rattle.utf8.specs.Decode.{decoded}
-use Rattle.utf8.specs.declared.Decoded.TheVariants.{Char}
-use Rattle.utf8.proofs.Classed.{by_right_at}
+use Rattle.std.specs.Prelude.{ℕ, Option, Result, Err}
+use Rattle.std.specs.Option.{ok_or}
+use Rattle.std.proofs.lemmas.Result.{err_from_is_err_and}
+use Rattle.utf8.specs.Decode.{character, decoded}
+use Rattle.utf8.specs.declared.Char.{Char}
 use Rattle.utf8.proofs.Whole.{along_none, along_inside, along_more, along_end, along_bad}
 use Rattle.utf8.proofs.measure.Goals as goal
-use Rattle.utf8.proofs.measure.Goals.{After-decode_by, In-Char}
+use Rattle.utf8.proofs.measure.Goals.{In_ok-at}
 
--- what the lent table says of the position is what `decoded` says of it
-here : (c : After-decode_by) → decoded (drop c.loop-at.at c.args.text.now) ≡ c.decode_by.result
-here c = sym (c.decode_by.ensures ∙ by_right_at c.classes-table.ensures c.args.text.now c.loop-at.at (omega (arith, c.shared_slice_known-1.given c.loop-at.at)))
-
--- the arm that binds the width
-char : (c : In-Char) → decoded (drop c.loop-at.at c.args.text.now) ≡ Char c.in-Char.code c.in-Char.width
-char c = sym (c.decode_by.ensures ∙ by_right_at c.classes-table.ensures c.args.text.now c.loop-at.at (omega (arith, c.shared_slice_known-1.given c.loop-at.at))) ∙ c.in-Char.is
+-- the character at the position
+char : (c : In_ok-at) → decoded (drop c.loop-at.at c.args.text.now) ≡ character c.in_ok-at.field-0.code c.in_ok-at.field-0.width
+char c = sym c.decode.ensures ∙ c.in_ok-at.ensures.ok_part
 
 pub loop-at-init : goal.loop-at-init
 loop-at-init c = along_none _
+
+pub returns-in_err-at : goal.returns-in_err-at
+returns-in_err-at c =
+    let p = err_from_is_err_and c.from_residual.result c.from_residual.ensures.1 in
+    let q : ◌≡◌ {A = Result Char ℕ} (Err c.in_err-at.field-0.0) (Err c.loop-at.at) = c.in_err-at.ensures.value ∙ ap (λ (o : Option Char). ok_or o c.loop-at.at) c.in_err-at.ensures.ok_part in
+    let e : c.in_err-at.field-0.0 ≡ c.loop-at.at = cc in
+    rw (p.1, p.2, e) (along_bad c.loop-at.invariant c.loop-at-test.true (sym c.decode.ensures ∙ c.in_err-at.ensures.ok_part))
 
 pub overflow_add-at : goal.overflow_add-at
 overflow_add-at c = omega (arith, along_inside c.loop-at.invariant (char c))
@@ -30,9 +35,6 @@ loop-at-smaller c = omega (arith, along_inside c.loop-at.invariant (char c), c.l
 
 pub loop-at-preserved : goal.loop-at-preserved
 loop-at-preserved c = along_more c.loop-at.invariant (char c)
-
-pub returns-in-Bad : goal.returns-in-Bad
-returns-in-Bad c = along_bad c.loop-at.invariant c.loop-at-test.true (here (goal.at.returns-in-Bad c).After-decode_by ∙ c.in-Bad.is)
 
 pub returns : goal.returns
 returns c = along_end c.loop-at.invariant c.loop-at-test.false

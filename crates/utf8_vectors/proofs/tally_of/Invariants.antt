@@ -1,10 +1,12 @@
--- `utf8_vectors::tally_of` meets its contract: there are no more lines than bytes; the measure is what is left of the text.
+-- There are no more lines than bytes, since each line takes one at least; and no more that differ than lines.
 -- Assumes nothing.
-use Rattle.std.proofs.Common.{◌-◌, ◌≤◌, length}
+use Rattle.std.proofs.Common.{◌+◌, ◌≤◌, length}
+use Rattle.std.specs.Slice.Iter.{split_inclusive_rest}
 use Rattle.utf8_vectors.proofs.tally_of.Given as goal
 
-abbrev pub invariant-loop-at : goal.invariant-loop-at
-invariant-loop-at l = (l.at ≤ length l.text) × (l.lines ≤ l.at) × (l.differ ≤ l.lines)
-
-abbrev pub decreases-loop-at : goal.decreases-loop-at
-decreases-loop-at l = length l.text - l.at
+abbrev pub invariant-loop-ended : goal.invariant-loop-ended
+invariant-loop-ended l =
+    goal.iterator-loop-ended.can_next l.ended-iterator
+    × goal.iterator-loop-ended.is_finite l.ended-iterator
+    × (l.lines + length (split_inclusive_rest l.ended-iterator) ≤ length l.text)
+    × (l.differ ≤ l.lines)

@@ -1,5 +1,5 @@
 use mathlib.Core.Path.{◌≡◌}
-use Prim.Native.Nat.{◌-◌, ◌≤◌, ◌<◌}
+use Prim.Native.Nat.{◌<◌}
 use lib.ListN.{length}
 use lib.Ieee.{Float}
 use Rattle.scores.specs.Table.{table}
@@ -10,10 +10,6 @@ use Rattle.viterbi.proofs.excluding_core.Given as goal
 
 abbrev pub invariant-loop-at : goal.invariant-loop-at
 invariant-loop-at l =
-    (l.at ≤ l.n)
-    × (l.n < length l.initial.best)
+    (l.lattice.n < length l.initial.best)
     × (l.piece ≡ l.excluded)
-    × Filled Float (table f64s (lattice_of l.offsets l.starts l.ids (without l.excluded l.scores)) l.at) l.initial.best l.at l.best
-
-abbrev pub decreases-loop-at : goal.decreases-loop-at
-decreases-loop-at l = l.n - l.at
+    × Filled Float (table f64s (lattice_of l.lattice.offsets.now l.lattice.starts.now l.lattice.ids.now (without l.excluded l.scores)) l.at) l.initial.best l.at l.best

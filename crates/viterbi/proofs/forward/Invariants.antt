@@ -1,4 +1,4 @@
-use Prim.Native.Nat.{ℕ, ◌-◌, ◌≤◌, ◌<◌}
+use Prim.Native.Nat.{ℕ, ◌<◌}
 use lib.ListN.{length}
 use lib.Ieee.{Float}
 use Rattle.scores.specs.Table.{table, edges_to}
@@ -9,11 +9,7 @@ use Rattle.viterbi.proofs.forward.Given as goal
 
 abbrev pub invariant-loop-at : goal.invariant-loop-at
 invariant-loop-at l =
-    (l.at ≤ l.n)
-    × (l.n < length l.initial.best)
-    × (l.n < length l.initial.back)
-    × Filled Float (table f64s (lattice_of l.offsets l.starts l.ids (without l.excluded l.scores)) l.at) l.initial.best l.at l.best
-    × Filled ℕ (edges_to f64s (lattice_of l.offsets l.starts l.ids (without l.excluded l.scores)) l.at) l.initial.back l.at l.back
-
-abbrev pub decreases-loop-at : goal.decreases-loop-at
-decreases-loop-at l = l.n - l.at
+    (l.lattice.n < length l.initial.best)
+    × (l.lattice.n < length l.initial.back)
+    × Filled Float (table f64s (lattice_of l.lattice.offsets.now l.lattice.starts.now l.lattice.ids.now (without l.excluded l.scores)) l.at) l.initial.best l.at l.best
+    × Filled ℕ (edges_to f64s (lattice_of l.lattice.offsets.now l.lattice.starts.now l.lattice.ids.now (without l.excluded l.scores)) l.at) l.initial.back l.at l.back

@@ -1,43 +1,16 @@
-use mathlib.Core.Path.{ap}
-use native.Mathlib.Omega.{arith}
-use lib.ListN.{length}
-use Rattle.viterbi.proofs.Walks.{Next, next, written_none, written_more, written_all}
+use Rattle.viterbi.proofs.Walks.{Next, next, written_more, written_all}
 use Rattle.viterbi.proofs.write_back.Goals as goal
 use Rattle.viterbi.proofs.write_back.Goals.{In-loop-position}
 
 -- the walk's next edge, inside the loop
-ahead : (c : In-loop-position) → Next c.args.back.now c.args.starts.now c.args.ids.now c.loop-position.position c.loop-position.invariant.left
+ahead : (c : In-loop-position) → Next c.args.back.now c.args.lattice.now.starts.now c.args.lattice.now.ids.now c.loop-position.position c.loop-position.invariant.left
 ahead c = next c.loop-position.invariant.left c.loop-position.invariant.rest c.loop-position-test.true
 
-pub loop-position-init : goal.loop-position-init
-loop-position-init c = written_none c.requires.by_index.0 c.requires.by_index.1 c.requires.by_index.2 c.requires.count_in_bounds
+pub bounds-lattice-k : goal.bounds-lattice-k
+bounds-lattice-k c = (ahead (goal.at.bounds-lattice-k c).In-loop-position).leads.in_ids
 
-pub overflow_add-met : goal.overflow_add-met
-overflow_add-met c = let l = ap length (ahead (goal.at.overflow_add-met c).In-loop-position).is in omega arith
-
-pub offset_bounds-ids-k : goal.offset_bounds-ids-k
-offset_bounds-ids-k c = omega (arith, (ahead (goal.at.offset_bounds-ids-k c).In-loop-position).leads.in_ids)
-
-pub bounds-ids-k : goal.bounds-ids-k
-bounds-ids-k c = (ahead (goal.at.bounds-ids-k c).In-loop-position).leads.in_ids
-
-pub overflow_sub-out : goal.overflow_sub-out
-overflow_sub-out c = let l = ap length (ahead (goal.at.overflow_sub-out c).In-loop-position).is in omega arith
-
-pub offset_bounds-out-count : goal.offset_bounds-out-count
-offset_bounds-out-count c = let l = ap length (ahead (goal.at.offset_bounds-out-count c).In-loop-position).is in omega arith
-
-pub bounds-out-count : goal.bounds-out-count
-bounds-out-count c = let l = ap length (ahead (goal.at.bounds-out-count c).In-loop-position).is in omega arith
-
-pub offset_bounds-starts-k : goal.offset_bounds-starts-k
-offset_bounds-starts-k c = omega (arith, (ahead (goal.at.offset_bounds-starts-k c).In-loop-position).leads.in_starts)
-
-pub bounds-starts-k : goal.bounds-starts-k
-bounds-starts-k c = (ahead (goal.at.bounds-starts-k c).In-loop-position).leads.in_starts
-
-pub overflow_cast-position : goal.overflow_cast-position
-overflow_cast-position c = omega (arith, (ahead (goal.at.overflow_cast-position c).In-loop-position).leads.lower)
+pub bounds-lattice-k-in-loop-position : goal.bounds-lattice-k-in-loop-position
+bounds-lattice-k-in-loop-position c = (ahead (goal.at.bounds-lattice-k-in-loop-position c).In-loop-position).leads.in_starts
 
 pub loop-position-smaller : goal.loop-position-smaller
 loop-position-smaller c = (ahead (goal.at.loop-position-smaller c).In-loop-position).leads.lower

@@ -1,16 +1,10 @@
-use Rattle.frames.proofs.Decoding.{digits_none, digits_bad, digits_more, digits_end}
-use borrow.Author.Tests.{not-true, not-false}
-use mathlib.Core.Path.{◌∙◌, sym}
+-- `frames::all_digits` meets its contract.
+-- Assumes nothing.
+use Rattle.std.proofs.Common.{◌≡◌, true, false, rules}
+use Rattle.std.proofs.lemmas.Iterator.{cases_from_all, YieldsList-from_slice}
+use Rattle.frames.specs.Bytes.{is_digit}
+use Rattle.frames.proofs.Decoding.{digits_decided}
 use Rattle.frames.proofs.line.all_digits.Goals as goal
 
-pub loop-at-init : goal.loop-at-init
-loop-at-init c = digits_none _
-
-pub returns-then-not-is_digit : goal.returns-then-not-is_digit
-returns-then-not-is_digit c = digits_bad c.loop-at.invariant c.loop-at-test.true (sym c.is_digit.ensures ∙ not-true _ c.if-not-is_digit.true-raw)
-
-pub loop-at-preserved : goal.loop-at-preserved
-loop-at-preserved c = digits_more c.loop-at.invariant c.loop-at-test.true (sym c.is_digit.ensures ∙ not-false _ c.if-not-is_digit.false-raw)
-
 pub returns : goal.returns
-returns c = digits_end c.loop-at.invariant c.loop-at-test.false
+returns c = digits_decided c.args.line.now _ (cases_from_all _ _ _ (λ b. is_digit b ≡ true) (λ b. is_digit b ≡ false) c.all.ensures.ran (YieldsList-from_slice c.args.line.now cc) (λ x q k. search rules) (λ x q k. search rules))

@@ -1,15 +1,10 @@
-use Rattle.frames.proofs.Lines.{spelling_none, spelling_room, spelling_more, spelling_end, spelling_behind}
-use Rattle.frames.proofs.Lines.{spelling_none, spelling_room, spelling_more, spelling_end}
+-- `frames::put_text` meets its contract: a byte more.
+-- Assumes nothing.
+use Rattle.frames.proofs.Lines.{spelling_none, spelling_more}
 use Rattle.frames.proofs.output.put_text.Goals as goal
 
-pub loop-i-init : goal.loop-i-init
-loop-i-init c = spelling_none _ _ _ c.requires
+pub loop-b-init : goal.loop-b-init
+loop-b-init c = spelling_none _ _ _ c.requires
 
-pub put-next-requires : goal.put-next-requires
-put-next-requires c = spelling_room c.loop-i.invariant c.loop-i-test.true
-
-pub loop-i-preserved : goal.loop-i-preserved
-loop-i-preserved c = spelling_more c.loop-i.invariant c.loop-i-test.true _ _ _ c.octet.ensures c.put-next.ensures.put
-
-pub returns : goal.returns
-returns c = record { put = spelling_end c.loop-i.invariant c.loop-i-test.false; value = spelling_behind c.loop-i.invariant c.loop-i-test.false }
+pub loop-b-preserved : goal.loop-b-preserved
+loop-b-preserved c = spelling_more c.loop-b.invariant c.loop-b-test.true _ _ _ c.from.ensures c.put-next.ensures.put

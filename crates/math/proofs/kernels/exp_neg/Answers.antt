@@ -21,6 +21,3 @@ float_to_int-k c = rw c.cut64-a.ensures (exp_placed c.args.t (fit (goal.at.float
 
 pub hi-requires : goal.hi-requires
 hi-requires c = rw c.cut64-a.ensures (high (index grid64 c.args.t) (exp_index c.args.t (fit (goal.at.hi-requires c).Start) c.requires.t c.requires.t_2))
-
-pub returns : goal.returns
-returns c = simp (c.hi.ensures, c.exp_poly.ensures, c.lo.ensures, c.cut64-a.ensures)

@@ -20,6 +20,3 @@ float_to_int-k c = rw c.cut64-a.ensures (ln1p_placed c.args.y (fit (goal.at.floa
 
 pub log-requires : goal.log-requires
 log-requires c = rw c.cut64-a.ensures (few (goal.at.log-requires c).Start)
-
-pub returns : goal.returns
-returns c = simp (c.ln_fall.ensures, c.log.ensures, c.cut64-a.ensures)

@@ -8,7 +8,7 @@ use lib.Ieee.{binary64, fits, to_bits}
 use lib.Ieee.Bits.{to_bits-lt}
 use Rattle.rounding.proofs.Casts.{int_in}
 use Rattle.math.specs.Steps.{field}
-use Rattle.math.proofs.Halves.{above_number, above_field}
+use Rattle.math.proofs.Halves.{above_field}
 use Rattle.math.proofs.kernels.ln_above.Goals as goal
 use Rattle.math.proofs.kernels.ln_above.Goals.{Start}
 
@@ -18,17 +18,8 @@ fit c = subst T (sym c.well_formed.0.1) tt
 near : (b : ℕ) → b < 18446744073709551616 → field b - 1022 < 9007199254740992
 near b h = omega arith
 
-pub float_to_bits-b : goal.float_to_bits-b
-float_to_bits-b c = above_number c.args.x (fit (c)) c.requires.t c.requires.t_2
-
 pub overflow_sub-result : goal.overflow_sub-result
 overflow_sub-result c = le_trans (lit≤ tt) (above_field c.args.x (fit (c)) c.requires.t c.requires.t_2)
 
 pub int_to_float-result : goal.int_to_float-result
 int_to_float-result c = let b = to_bits binary64 c.args.x in int_in (field b - 1022) (near b (to_bits-lt binary64 c.args.x (fit (goal.at.int_to_float-result c).Start)))
-
-pub ln_half-requires : goal.ln_half-requires
-ln_half-requires c = record { t = c.significand.ensures.t; t_2 = c.significand.ensures.t_2 }
-
-pub returns : goal.returns
-returns c = simp (c.ln_half.ensures, c.significand.ensures.value)

@@ -1,19 +1,15 @@
 -- `math::kernels::ln_below` meets its contract. Assumes nothing.
-use mathlib.Core.Path.{sym, ap, subst}
+use mathlib.Core.Path.{sym, subst}
 use native.Mathlib.Nat.{le_trans}
 use lib.Dec.{T, lit<, lit≤}
-use lib.Ieee.{Float, binary64, fits}
-use Rattle.math.specs.Steps.{zero, ◌⊖◌}
+use lib.Ieee.{binary64, fits}
 use Rattle.laws.proofs.Choices.{no}
-use Rattle.math.proofs.Halves.{below_number, below_field, scaled_number, scaled_field}
+use Rattle.math.proofs.Halves.{below_field, scaled_number, scaled_field}
 use Rattle.math.proofs.kernels.ln_below.Goals as goal
 use Rattle.math.proofs.kernels.ln_below.Goals.{Start}
 
 fit : (c : Start) → T (fits binary64 c.args.x)
 fit c = subst T (sym c.well_formed.0.1) tt
-
-pub float_to_bits-x : goal.float_to_bits-x
-float_to_bits-x c = below_number c.args.x (fit (goal.at.float_to_bits-x c).Start) c.requires.t c.requires.t_2
 
 pub ln_down-requires : goal.ln_down-requires
 ln_down-requires c = record { b_bound = le_trans (below_field c.args.x (fit (goal.at.ln_down-requires c).Start) c.requires.t c.requires.t_2) (lit≤ tt); n_bound = lit< tt }
@@ -23,9 +19,3 @@ float_to_bits-x-else-x c = scaled_number c.args.x (fit (goal.at.float_to_bits-x-
 
 pub ln_down-requires-else-x : goal.ln_down-requires-else-x
 ln_down-requires-else-x c = record { b_bound = le_trans (scaled_field c.args.x (fit (goal.at.ln_down-requires-else-x c).Start) c.requires.t c.requires.t_2 (no c.if-x.false)) (lit≤ tt); n_bound = lit< tt }
-
-pub returns-then-x : goal.returns-then-x
-returns-then-x c = simp c.if-x.true (ap (λ (z : Float). zero ⊖ z) c.ln_down.ensures)
-
-pub returns-else-x : goal.returns-else-x
-returns-else-x c = simp c.if-x.false (ap (λ (z : Float). zero ⊖ z) c.ln_down-else-x.ensures)

@@ -20,6 +20,3 @@ float_to_int-k c = rw c.cut128-a.ensures (half_placed c.args.x (fit (goal.at.flo
 
 pub mlog-requires : goal.mlog-requires
 mlog-requires c = rw c.cut128-a.ensures (few (goal.at.mlog-requires c).Start)
-
-pub returns : goal.returns
-returns c = simp (c.ln_rise.ensures, c.mlog.ensures, c.cut128-a.ensures)

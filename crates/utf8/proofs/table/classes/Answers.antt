@@ -1,4 +1,4 @@
--- `utf8::classes` meets its contract: a test of one entry, computed at all 256.
+-- `utf8::classes` meets its contract: the table is right, by a test of one entry computed at all 256.
 -- Assumes nothing.
 use mathlib.Core.Path.{refl}
 use Rattle.utf8.proofs.Classed.{is_class, right_table}

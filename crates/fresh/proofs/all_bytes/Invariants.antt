@@ -1,9 +1,0 @@
-use Rattle.fresh.proofs.Most.{Summed}
-use Prim.Native.Nat.{◌-◌}
-use Rattle.fresh.proofs.all_bytes.Given as goal
-
-abbrev pub invariant-loop-k : goal.invariant-loop-k
-invariant-loop-k l = Summed l.words l.k l.sum
-
-abbrev pub decreases-loop-k : goal.decreases-loop-k
-decreases-loop-k l = l.many - l.k
