@@ -2,6 +2,7 @@
 use mathlib.Core.Path.{sym, subst}
 use Rattle.std.specs.Prelude.{Result, Ok, Err}
 use Rattle.refusal.specs.declared.Refusal.{Refusal}
+use Rattle.spans.specs.Spans.{many}
 use Rattle.settings.specs.Check.{InBounds}
 use Rattle.corpus.specs.Check.{Answers as WordsAnswers}
 use Rattle.listing.specs.Start.{Lent, Work, Left, Room, slots, bad_words, Fit, Checks, Why, no_slots, Answers}
@@ -14,6 +15,6 @@ by_words x Room s room (Ok _) a = record { settings_fit = s; room = room; words_
 by_words x Room s room (Err refusal) a = bad_words s room a
 
 -- ---- what the list answers
-pub listed : (x : Lent) (w : Work) (y : Left) → Fit x (Room x w) → (r : Result Seeded Refusal) → Lists x (slots w) w.kept w.counts y r → Answers x w y r
+pub listed : (x : Lent) (w : Work) (y : Left) → Fit x (Room x w) → (r : Result Seeded Refusal) → Lists x (many x.specials) (slots w) w.kept w.counts y r → Answers x w y r
 listed x w y f (Ok seeded) (k, s) = record { fit = f; words_are = k; list = s }
 listed x w y f (Err refusal) (d, n) = subst (Why x w) (sym d) (no_slots f n)

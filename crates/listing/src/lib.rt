@@ -92,10 +92,11 @@ pub fn check(
     corpus::check(lent.text, lent.words, lent.frequencies, table)
 }
 
-// Copies out the words that are UTF-8 and makes their list, of what was checked. What it writes to are no fields of a struct: each
-// field would need a clause that its loan comes back.
+// Copies out the words that are UTF-8 and makes their list, of what was checked, where there are so many specials. What it writes to
+// are no fields of a struct: each field would need a clause that its loan comes back.
 pub fn list(
     lent: &Lent,
+    specials: usize,
     kept: &mut [u32],
     counts: &mut [u64],
     chars: &mut [u32],
@@ -108,12 +109,11 @@ pub fn list(
     scores: &mut [f64],
 ) -> Result<Seeded, Refusal>
     requires { Listing (lists_of lent.now) kept.old counts.old chars.old places.old order.old work.old ranks.old }
-    ensures { Lists (lists_of lent.now) (slots_of pieces.old tallies.old scores.old order.old work.old ranks.old) kept.old counts.old (record { kept = kept.new; counts = counts.new; pieces = pieces.new; tallies = tallies.new; scores = scores.new }) result }
+    ensures { Lists (lists_of lent.now) specials (slots_of pieces.old tallies.old scores.old order.old work.old ranks.old) kept.old counts.old (record { kept = kept.new; counts = counts.new; pieces = pieces.new; tallies = tallies.new; scores = scores.new }) result }
 {
     let many = utf8_words(lent.text, lent.words, lent.frequencies, kept, counts);
     let numbers = 2 * many;
-    let target = lent.settings.target(spans::count(lent.specials));
-    let pool = lent.settings.pool(target);
+    let pool = lent.settings.pool(lent.settings.target(specials));
     let Some(listed) = seed(
         lent.text,
         &kept[..numbers],

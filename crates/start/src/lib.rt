@@ -31,8 +31,9 @@ fn check_and_list(
 {
     let room = listing::positions(chars, places, order, work, ranks);
     listing::check(lent, kept, counts, table, room)?;
+    let specials = spans::count(lent.specials);
     listing::list(
-        lent, kept, counts, chars, places, order, work, ranks, pieces, tallies, scores,
+        lent, specials, kept, counts, chars, places, order, work, ranks, pieces, tallies, scores,
     )
 }
 

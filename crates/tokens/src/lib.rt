@@ -17,7 +17,7 @@ ghost use Rattle.copied.specs.Put.{Puts, PutsAll};
 ghost use Rattle.tokens.specs.Tokens.{Given, texts_of, tokens_of, scores_of, Answers};
 ghost use Rattle.tokens.specs.Steps.{Fits, Putting, PuttingAll};
 
-use copied::put;
+use copied::{over, put};
 
 // Whether so many tokens of so many bytes fit into the slices.
 fn fits(count: usize, long: usize, bytes: &[u8], tokens: &[u32], token_scores: &[f64]) -> bool
@@ -85,6 +85,6 @@ pub fn write(
     let next = put_all(texts, specials, bytes, tokens, 0, 0);
     put_all(text, pieces, bytes, tokens, first, next);
     token_scores[..first].fill(0.0);
-    token_scores[first..count].copy_from_slice(scores);
+    over(&mut token_scores[first..count], scores);
     Some(count)
 }

@@ -51,7 +51,8 @@ fn follow(text: &[u8], at: usize, lead: u32, low: u8, high: u8, tails: usize) ->
     })
 }
 
-// The character that a byte of a class begins.
+// The character that a byte of a class begins. Kept apart from the loops over texts, so that an ASCII byte costs them no call.
+#[inline(never)]
 #[tactic(auto, unfolding(crate::specs::Decode::by_class))]
 fn of_class(class: u8, text: &[u8], at: usize, byte: u8) -> Option<Char>
     requires { at < length text.now }
@@ -75,6 +76,7 @@ fn of_class(class: u8, text: &[u8], at: usize, byte: u8) -> Option<Char>
 }
 
 // The character at a position. Past the end there is none.
+#[inline(always)]
 pub fn decode(text: &[u8], at: usize) -> Option<Char>
     ensures { result ≡ decoded (drop at text.now) }
 {
@@ -82,6 +84,7 @@ pub fn decode(text: &[u8], at: usize) -> Option<Char>
 }
 
 // The same by any table of classes. With that of `classes` the answer is that of `decode`.
+#[inline(always)]
 pub fn decode_by(classes: &[u8; 256], text: &[u8], at: usize) -> Option<Char>
     ensures { result ≡ decoded_by classes.now (drop at text.now) }
 {

@@ -4,7 +4,7 @@ use mathlib.Core.Path.{refl, sym, ap, ◌∙◌}
 use Prim.Native.Nat.{ℕ, ◌*◌}
 use native.Mathlib.Omega.{arith}
 use lib.Seq.{length-take-le}
-use Rattle.settings.specs.Settings.{target_of, pool_of}
+use Rattle.settings.specs.Settings.{pool_of}
 use Rattle.listing.proofs.Listing.{few, spans_in, counts_in, corpus_is, asked}
 use Rattle.listing.proofs.list.Goals as goal
 
@@ -31,5 +31,5 @@ returns-in_default c =
 pub returns : goal.returns
 returns c =
     let e = corpus_is c.requires c.utf8_words-many.ensures c.utf8_words-many.auto.kept c.utf8_words-many.auto.counts in
-    let p = c.pool-pool.ensures ∙ ap (λ (n : ℕ). pool_of c.args.lent.now.settings n) (c.target-target.ensures ∙ ap (λ (n : ℕ). target_of c.args.lent.now.settings n) c.count.ensures) in
+    let p = c.pool-pool.ensures ∙ ap (λ (n : ℕ). pool_of c.args.lent.now.settings n) c.target.ensures in
     (c.utf8_words-many.ensures, rw (e, p) at c.in-Some.ensures)

@@ -16,4 +16,4 @@ list-requires c =
     record { short = f.settings_fit.length_within; paired = c.requires; table = c.args.table.now; bounded = f.room; words_fit = f.words_fit }
 
 pub returns : goal.returns
-returns c = listed _ _ _ (rw c.positions-room.ensures at c.in_ok-check.ensures) c.list.result c.list.ensures
+returns c = listed _ _ _ (rw c.positions-room.ensures at c.in_ok-check.ensures) c.list.result (rw c.count-specials.ensures at c.list.ensures)

@@ -48,5 +48,5 @@ returns c =
     let slots = c.args.token_scores.now in
     let zeros = front_stored (fin false 0 (pos 0)) slots c.fill.new.self c.count-first.result (c.fill.ensures.after (λ _ e. e)) (omega (arith, f.scores_fit)) in
     let long = ap length zeros ∙ length-sets slots 0 (replicate c.count-first.result (fin false 0 (pos 0))) in
-    let scores = part_stored (c.fill.new.self ++ drop c.count-first.result slots) c.args.scores.now c.copy_from_slice.new.self c.count-first.result (c.count-first.result + c.count.result - c.count-first.result) c.copy_from_slice.ensures.after (omega arith) (omega (arith, long, f.scores_fit)) in
+    let scores = part_stored (c.fill.new.self ++ drop c.count-first.result slots) c.args.scores.now c.over.new.to c.count-first.result (c.count-first.result + c.count.result - c.count-first.result) c.over.ensures (omega arith) (omega (arith, long, f.scores_fit)) in
     written c.requires (sum_is (goal.at.returns c).After-all_bytes) (long_is (goal.at.returns c).After-all_bytes) f c.count-first.result c.put_all-next.result c.put_all.result c.count-first.ensures c.put_all-next.ensures c.put_all.ensures zeros scores
